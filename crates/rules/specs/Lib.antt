@@ -1,0 +1,7 @@
+pub mod Universe
+pub mod Sequence
+pub mod Age
+pub mod Bytes
+pub mod Cid
+pub mod Trials
+pub mod Answer

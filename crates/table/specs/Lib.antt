@@ -1,0 +1,5 @@
+pub mod Cases
+pub mod Order
+pub mod Table
+pub mod Place
+pub mod Arrays
