@@ -1,0 +1,104 @@
+-- Document 01, 'Further calls', and lists of calls.
+-- Assumes nothing.
+use mathlib.Core.Path.{_≡_}
+use mathlib.Core.Bool.{Bool, true, false, not, cond}
+use mathlib.Core.Option.{Option, none, some}
+use mathlib.Core.List.{List, [], _∷_}
+use Prim.Native.Nat.{ℕ}
+use lib.Dec.{ltb}
+use Rattle.table.specs.Table.{remove}
+use Rattle.rules.specs.Universe.{legal}
+use Rattle.rules.specs.Age.{data-loss}
+use Rattle.settings.specs.declared.Settings.{Settings}
+use Rattle.pairs.specs.Table as pairs
+use Rattle.waiting.specs.Waiting as waiting
+use Rattle.discovery.specs.Discovery as discovery
+use Rattle.model.specs.declared.PollAnswer.{PollAnswer}
+use Rattle.model.specs.declared.PollAnswer.the-variants as polling
+use Rattle.model.specs.declared.ExpiryAnswer.{ExpiryAnswer}
+use Rattle.model.specs.declared.ExpiryAnswer.the-variants as expiry
+use Rattle.model.specs.declared.ListenAnswer.{ListenAnswer}
+use Rattle.model.specs.declared.MuteAnswer.{MuteAnswer}
+use Rattle.model.specs.declared.MuteAnswer.the-variants as muting
+use Rattle.model.specs.declared.ClearAnswer.{ClearAnswer}
+use Rattle.model.specs.declared.ClearAnswer.the-variants as clearing
+use Rattle.model.specs.Packet.{Packet}
+use Rattle.model.specs.State.{State, itself, listens, fresh}
+use Rattle.model.specs.Step.{Space, short, waiting-bytes, page-bytes, poll, step, listen-all, with-waiting, with-listened, with-discovered}
+
+-- "poll": a call tests the stores that it is lent, as a step does; waiting is the length of the waiting values
+unfoldable pub polled-by : State × Option pairs.Key → State × PollAnswer
+polled-by (s, none) = (s, polling.Polled)
+polled-by (s, some k) = (s, polling.UniverseTimeout (k .cid) (k .universe))
+
+unfoldable pub poll-call : ℕ → Settings → ℕ → State → State × PollAnswer
+poll-call room S now s = elim (short waiting-bytes room) [ some n ↦ (s, polling.TooShort n) | none ↦ polled-by (poll S now s) ]
+
+-- "The discovery sweep (`remove_expired_sources`) drops entries of age 2,500 or more and runs only when called."
+unfoldable pub expiry-call : ℕ → ℕ → State → State × ExpiryAnswer
+expiry-call room now s = elim (short page-bytes room) [
+  | some n ↦ (s, expiry.TooShort n)
+  | none ↦ (with-discovered (discovery.swept data-loss now (s .discovered)) s, expiry.Swept)
+]
+
+-- `listen_universes`
+unfoldable pub listen-call : List ℕ → State → State × ListenAnswer
+listen-call us s = let r = listen-all us (s .listened) in (with-listened (r .0) s, r .1)
+
+-- "`mute_universe` (2, then 3)"
+unfoldable pub mute-call : ℕ → State → State × MuteAnswer
+mute-call u s =
+    cond (legal u)
+    (cond (listens u (s .listened))
+    (with-listened (remove ltb itself u (s .listened)) s, muting.Muted)
+    (s, muting.UniverseNotRegistered u))
+    (s, muting.IllegalUniverse u)
+
+-- "`clear_waiting_data` (answers whether it held any)"
+unfoldable pub clear-call : ℕ → ℕ → State → State × ClearAnswer
+clear-call room u s = elim (short waiting-bytes room) [
+  | some n ↦ (s, clearing.TooShort n)
+  | none ↦ (let r = waiting.cleared u (s .waiting) in (with-waiting (r .0) s, clearing.Cleared (r .1)))
+]
+
+-- `clear_all_waiting_data`
+unfoldable pub clear-all-call : State → State
+clear-all-call s = with-waiting [] s
+
+-- "`reset_sources` (both pair tables and both discovery lists, not waiting data)"
+unfoldable pub reset-call : State → State
+reset-call s = record {
+  data-pairs = pairs.empty;
+  sync-pairs = pairs.empty;
+  waiting = s .waiting;
+  listened = s .listened;
+  discovered = discovery.nothing-known;
+}
+
+-- ── lists of calls ──
+pub data Call : Type 0 where
+  on-packet : Space → Settings → ℕ → Packet → Call
+  on-poll : ℕ → Settings → ℕ → Call
+  on-expiry : ℕ → ℕ → Call
+  on-listen : List ℕ → Call
+  on-mute : ℕ → Call
+  on-ask : ℕ → Call
+  on-clear : ℕ → ℕ → Call
+  on-clear-all : Call
+  on-reset : Call
+
+unfoldable pub call : Call → State → State
+call (on-packet m S now p) s = step m S now p s .state
+call (on-poll room S now) s = poll-call room S now s .0
+call (on-expiry room now) s = expiry-call room now s .0
+call (on-listen us) s = listen-call us s .0
+call (on-mute u) s = mute-call u s .0
+call (on-ask u) s = s
+call (on-clear room u) s = clear-call room u s .0
+call on-clear-all s = clear-all-call s
+call on-reset s = reset-call s
+
+-- what a list of calls leaves of a state
+unfoldable pub run : List Call → State → State
+run [] s = s
+run (c ∷ cs) s = run cs (call c s)

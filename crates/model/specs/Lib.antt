@@ -1,0 +1,6 @@
+pub mod Packet
+pub mod Answer
+pub mod State
+pub mod Step
+pub mod Calls
+pub mod Examples
