@@ -1,2 +1,3 @@
 pub mod Waiting
 pub mod Records
+pub mod Laws
