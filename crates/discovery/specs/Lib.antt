@@ -1,1 +1,3 @@
 pub mod Discovery
+pub mod Laws
+pub mod Kept
