@@ -5,61 +5,13 @@ use mathlib.Core.Logic.{_≢_}
 use mathlib.Core.Bool.{Bool, true, false, not, cond, _&&_}
 use mathlib.Core.Option.{Option, none, some}
 use mathlib.Core.List.{List, [], _∷_, _++_, map}
-use Prim.Native.Nat.{ℕ, zero, suc, _+_, _≤_, _<_}
-use native.Mathlib.Omega.{arith}
-use lib.Dec.{leb, eqb}
-use lib.ListN.{length, take, drop, length-append, length-map}
-use borrow.Author.Tests.{leb-true, leb-false, le-leb, lt-leb}
+use Prim.Native.Nat.{ℕ, _+_}
+use lib.Dec.{eqb}
 use Rattle.table.specs.Cases.{split, clash, found, missing}
-use Rattle.table.specs.Table.{keep, any, pass, length-keep}
-use Rattle.table.specs.Place.{prefix, insertAt}
+use Rattle.table.specs.Table.{keep, any, pass}
 use Rattle.rules.specs.declared.Cid.{Cid}
 use Rattle.rules.specs.Cid.{same, same-refl, same-path}
-use Rattle.discovery.specs.declared.PageAnswer.{PageAnswer}
-use Rattle.discovery.specs.declared.PageAnswer.the-variants.{Taken, Listed, PagesFull}
-use Rattle.discovery.specs.Discovery.{
-  Page,
-  Source,
-  Discovered,
-  Announcement,
-  lookup,
-  drop-source,
-  relisted,
-  updated,
-  in-place,
-  sorted,
-  numbered,
-  complete,
-  pageOf,
-  extended,
-  begun,
-  Note,
-  begin,
-  extend,
-  list,
-  noted,
-  noting,
-  told,
-  page-count,
-  pages-held,
-  capacity,
-  most-universes,
-  most-name,
-  taken,
-  arrived,
-  cut-page,
-  cut,
-  ended,
-  current,
-  swept,
-  Once,
-  Rising,
-  Proper-page,
-  Proper-pages,
-  Proper,
-  All-proper,
-  Ordered,
-}
+use Rattle.discovery.specs.Discovery.{Source, Discovered, Announcement, lookup, drop-source, relisted, updated, complete, extended, begun, Note, begin, extend, list, noted, noting, told, taken, cut, ended, current, swept, Once, Ordered}
 
 -- ── the test of a CID ──
 -- CIDs that are the same test alike against a third
