@@ -1,1 +1,4 @@
 pub mod Discovery
+pub mod Laws
+pub mod Kept
+pub mod Trials
