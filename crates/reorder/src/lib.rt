@@ -1,0 +1,1 @@
+// No functions: demand 3 over the definitions of the crate model stands in specs/.
