@@ -18,7 +18,7 @@ use Rattle.settings.specs.Settings.{withTermination, withMerge, withLimit, with
 use Rattle.settings.specs.Settings as settings
 use Rattle.pairs.specs.Table as pairs
 use Rattle.pairs.specs.declared.Pair.{Pair}
-use Rattle.merge.specs.declared.SourceCid.the-variants.{Merged}
+use Rattle.merge.specs.declared.SourceCid.the-variants.{Merged, Of}
 use Rattle.merge.specs.Merge.{Dmx, same-start, mergeable, highest, blended, joined, htp-merge, preferred}
 use Rattle.waiting.specs.Waiting as waiting
 use Rattle.waiting.specs.Records.{encode, records}
@@ -214,6 +214,27 @@ record Pinned : Type 0 where
       page-numbers
       (after settings.fresh ((0, discovery-packet (page-of 1 0 1 [])) ∷ (0, discovery-packet (page-of 1 5 1 [])) ∷ (0, discovery-packet (page-of 1 1 1 [])) ∷ []) fresh)
       ≡ (0 ∷ 1 ∷ 5 ∷ []) ∷ []
+  -- two universes under one address are released together: 2 records, 74 bytes
+  two-records :
+      stepValues []
+      (step enough settings.fresh 6 (sync-packet (sync-of 1 7 0))
+      (after settings.fresh ((5, data-packet (data-of 1 2 7 100 0 (0 ∷ 1 ∷ []))) ∷ (5, data-packet (data-of 1 1 7 100 0 (0 ∷ 2 ∷ []))) ∷ []) (listening-to (1 ∷ 2 ∷ []))) .answer)
+      ≡ number 2 ∷ number 74 ∷ []
+  -- the second sync finds nothing left
+  released-once :
+      released settings.fresh
+      ((5, data-packet (data-of 1 1 7 100 0 (0 ∷ []))) ∷ (5, sync-packet (sync-of 1 7 0)) ∷ (5, sync-packet (sync-of 1 7 1)) ∷ [])
+      (listening-to (1 ∷ []))
+      ≡ [] ∷ records (record {
+        head = record { universe = 1; «sync_uni» = 7; priority = 100; «src_cid» = Of (cid 1); preview = false; «recv_timestamp» = 5 };
+        values = 0 ∷ [];
+      } ∷ []) ∷ [] ∷ []
+  -- an announced termination is told for an unknown pair and a universe that is not listened to
+  end-not-listened : numbers (withTermination true settings.fresh) ((0, data-packet (end-of 1 9 0)) ∷ []) fresh ≡ 5 ∷ []
+  -- a universe that is not listened to changes nothing
+  not-listened :
+      data-sequences (after settings.fresh ((0, data-packet (data-of 1 2 0 100 0 (0 ∷ []))) ∷ []) (listening-to (1 ∷ [])))
+      ≡ []
   -- ── two desks in one millisecond, and a sync: the same look in either order ──
   two-desks :
       released highest-wins
@@ -251,6 +272,10 @@ pinned = record {
   refused-merge = refl;
   announced-timeout = refl;
   three-pages = refl;
+  two-records = refl;
+  released-once = refl;
+  end-not-listened = refl;
+  not-listened = refl;
   two-desks = refl;
   two-desks-swapped = refl;
 }

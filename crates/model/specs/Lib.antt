@@ -4,3 +4,4 @@ pub mod State
 pub mod Step
 pub mod Calls
 pub mod Examples
+pub mod Invariant

@@ -43,6 +43,7 @@ use Rattle.model.specs.declared.ListenAnswer.the-variants as listen
 use Rattle.model.specs.Answer.{stepNumber}
 use Rattle.model.specs.Packet.{DataPacket, SyncPacket, Packet, data-packet, sync-packet, discovery-packet, sender}
 use Rattle.model.specs.State.{State, listens, there, itself}
+use Rattle.model.specs.Invariant.{Heard}
 use Rattle.model.specs.Step as model
 use Rattle.model.specs.Step.{Outcome, outcome}
 use Rattle.reorder.specs.Ideal.{Told, Change, put, drop, change, News, quiet, note, forget, learn, Effect, say, only, apply, polled, unless, if-known, ending, arriving, releasing, data-effect, syncing, sync-effect, discovery-effect, effect, step, Good, FitsPacket}
@@ -132,11 +133,6 @@ in-turn s false false true w x y z e f g p q r t n = r n
 in-turn s false false false w x y z e f g p q r t n = clash t refl
 
 -- ── listening to an address that is listened to already ──
-pub record Heard (L : List ℕ) : Type 0 where
-  pub ascends : Ascending ltb itself L
-  pub few : length L ≤ 1024
-  pub all-legal : (u : ℕ) → listens u L ≡ true → legal u ≡ true
-
 heard-already : (a : ℕ) (L : List ℕ) → Heard L → listens a L ≡ true → model.listen-all (a ∷ []) L ≡ (L, listen.Listening)
 unfolding model.listen-all model.illegal model.joined-by
 heard-already a L h l =

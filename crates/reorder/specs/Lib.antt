@@ -4,3 +4,4 @@ pub mod Ideal
 pub mod Agree
 pub mod Limit
 pub mod Proof
+pub mod Instance

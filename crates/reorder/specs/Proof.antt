@@ -37,86 +37,18 @@ use Rattle.model.specs.State as state
 use Rattle.model.specs.Step as model
 use Rattle.model.specs.Step.{Space, Outcome, too-short}
 use Rattle.model.specs.Calls.{listen-call, mute-call}
+use Rattle.model.specs.Invariant.{Heard, listen-heard, mute-heard, heard-fresh}
 use Rattle.reorder.specs.Demand.{Timed, At, Picks, Reordering, MovedPast, Free, Telling, listen, mute, tell, start, nameOf, Answered, answered, outcome-of, end, answers, DataAt, SyncAt, itself, counted, sources-of, InLimit, NoneFull, Asked, EndAlike, Agreed, Demand-3}
 use Rattle.reorder.specs.Reorder.{Commutes, All, at-all, guarded, passes, fails, guarded-commutes, as-ideal}
 use Rattle.reorder.specs.Reorder as reorder
 use Rattle.reorder.specs.Ideal.{Told, say, Effect, apply, effect, polled, step, Same, Good, Fits, FitsPacket, Indep, Sound, sound, good-apply, good-polled, polled-polled, commutes, change, Local, discovery-effect}
-use Rattle.reorder.specs.Agree.{out, done, capped, Heard, Room, data-agree, sync-agree, discovery-agree}
+use Rattle.reorder.specs.Agree.{out, done, capped, Room, data-agree, sync-agree, discovery-agree}
 use Rattle.reorder.specs.Limit.{In, Within, room, within-swept, within-change}
 
 none-some {ℓ} : {C : Type ℓ} {A : Type 0} {a : A} → none ≡ some a → C
 none-some e = let z : _≡_ {A = ℕ} 0 1 = cc in absurd (omega arith)
 
 -- ── what a fresh receiver can be told to listen to ──
-listens-store : (u v : ℕ) (L : List ℕ) → listens u (store ltb state.itself v L) ≡ true → u ≢ v → listens u L ≡ true
-listens-store u v L h n = rw (find-store-other ltb state.itself ℕ-order u v L n) at h
-
-joined-heard : (us L : List ℕ) → model.illegal us ≡ none → Ascending ltb state.itself L → ((u : ℕ) → listens u L ≡ true → legal u ≡ true)
-    → Ascending ltb state.itself (model.joined-by us L) × ((u : ℕ) → listens u (model.joined-by us L) ≡ true → legal u ≡ true)
-unfolding model.illegal model.joined-by
-joined-heard [] L i a l = (a, l)
-joined-heard (v ∷ us) L i a l =
-    split (legal v)
-    (λ g. joined-heard us (store ltb state.itself v L) (rw g at i) (ascending-store ltb state.itself ℕ-order v L a)
-    (λ u h. keyed ltb ℕ-order u v (λ e. rw e g) (λ n. l u (listens-store u v L h n))))
-    (λ g. none-some (sym (rw g at i)))
-
--- a call that is refused leaves the list
-listen-kept : (us L : List ℕ) (u : ℕ) → model.illegal us ≡ some u → model.listen-all us L .0 ≡ L
-unfolding model.listen-all
-listen-kept us L u e = cc
-
-listen-full : (us L : List ℕ) → model.illegal us ≡ none → ltb model.most-listened (length (model.joined-by us L)) ≡ true → model.listen-all us L .0 ≡ L
-unfolding model.listen-all
-listen-full us L e f = cc
-
-listen-done : (us L : List ℕ) → model.illegal us ≡ none → ltb model.most-listened (length (model.joined-by us L)) ≡ false → model.listen-all us L .0 ≡ model.joined-by us L
-unfolding model.listen-all
-listen-done us L e f = cc
-
-listen-heard : (us L : List ℕ) → Heard L → Heard (model.listen-all us L .0)
-listen-heard us L h =
-    found (model.illegal us)
-    (λ e. split (ltb model.most-listened (length (model.joined-by us L)))
-    (λ f. rw (listen-full us L e f) h)
-    (λ f.
-    let j = joined-heard us L e (h .ascends) (h .all-legal) in
-    rw (listen-done us L e f) (record { ascends = j .0; few = ltb-false 1024 (length (model.joined-by us L)) f; all-legal = j .1 })))
-    (λ u e. rw (listen-kept us L u e) h)
-
-listens-remove : (u v : ℕ) (L : List ℕ) → Ascending ltb state.itself L → listens u (remove ltb state.itself v L) ≡ true → listens u L ≡ true
-listens-remove u v L a h =
-    keyed ltb ℕ-order u v
-    (λ e.
-    let z : false ≡ true = rw (e, find-remove-same ltb state.itself ℕ-order v L a) at h in
-    clash z refl)
-    (λ n. rw (find-remove-other ltb state.itself ℕ-order u v L a n) at h)
-
-remove-heard : (v : ℕ) (L : List ℕ) → Heard L → Heard (remove ltb state.itself v L)
-remove-heard v L h = record {
-  ascends = ascending-remove ltb state.itself ℕ-order v L (h .ascends);
-  few = let r = length-remove ltb state.itself ℕ-order v L in let f = h .few in omega arith;
-  all-legal = λ u l. h .all-legal u (listens-remove u v L (h .ascends) l);
-}
-
-mute-heard : (v : ℕ) (s : State) → Heard (s .listened) → Heard (mute-call v s .0 .listened)
-unfolding mute-call
-mute-heard v s h =
-    split (legal v)
-    (λ e. split (listens v (s .listened)) (λ f. rw (e, f) (remove-heard v (s .listened) h)) (λ f. rw (e, f) h))
-    (λ e. rw e h)
-
-heard-fresh : Heard (fresh .listened)
-unfolding find
-heard-fresh = record {
-  ascends = (tt, tt);
-  few = omega arith;
-  all-legal = λ u h. keyed ltb ℕ-order u 64214 (λ e. rw e) (λ n. clash h (absent u n));
-}
-  where
-    absent : (u : ℕ) → u ≢ 64214 → listens u (fresh .listened) ≡ false
-    absent u n = tri ltb ℕ-order u 64214 (λ p q. rw (q, p)) (λ e. absurd (n e)) (λ p q. rw q)
-
 -- telling changes the listened universes alone
 record Quiet (s t : State) : Type 0 where
   quiet-data : t .data-pairs ≡ s .data-pairs
