@@ -1,4 +1,6 @@
 // Document 01, 'Pair tables': pairs of a CID and a universe with their last sequence number and reading, and the CIDs that count as sources.
+mod rows;
+
 use rules::Cid;
 
 // A pair with what its last arrival left.
@@ -29,4 +31,18 @@ pub enum SweepAnswer {
     Quiet,
     // Number 4.
     TimedOut(Cid, u16),
+}
+
+// Where a pair stands.
+pub enum Found {
+    At(usize),
+    Nothing,
+}
+
+// What a table says of its lent rows: how many are in use, a reading that no pair is older than, and whether each listed CID is known to have a pair.
+pub struct PairTable {
+    pub count: usize,
+    pub source_count: usize,
+    pub oldest: u64,
+    pub tidy: bool,
 }
