@@ -8,10 +8,11 @@ use mathlib.Core.List.{List, [], _∷_, map}
 use Prim.Native.Nat.{ℕ, _≤_, _/_, _%_}
 use lib.Dec.{ltb, eqb}
 use lib.ListN.{length, take, getD}
-use Rattle.table.specs.Table.{any}
+use Rattle.table.specs.Table.{any, find, Ascending}
 use Rattle.table.specs.Place.{place}
 use Rattle.rules.specs.declared.Cid.{Cid}
 use Rattle.rules.specs.Cid.{same, before}
+use Rattle.rules.specs.Age.{expired}
 use Rattle.rules.specs.Answer.{Value, number, source}
 use Rattle.pairs.specs.declared.Pair.{Pair}
 use Rattle.pairs.specs.declared.PairTable.{PairTable}
@@ -67,14 +68,34 @@ placed i (some p) = At i
 abbrev pub foundAt : Key → List Pair → Found
 foundAt k ps = placed (place key-before keyOf k ps) (pairAt k ps)
 
+abbrev pub sourceAt : Cid → List Cid → Found
+sourceAt c cs = placed (place before itself c cs) (find before itself c cs)
+
+-- the row's CID is before this one
+abbrev pub row-before : Cid → List ℕ → Bool
+row-before c row = before (pairOf row .cid) c
+
 -- the pair has this key
 abbrev pub same-key : Pair → Cid → ℕ → Bool
 same-key p c u = same (p .cid) c && eqb (p .universe) u
+
+-- the first of the rows has this CID
+abbrev pub starts : Cid → Rows → Bool
+starts c [] = false
+starts c (row ∷ rows) = same (pairOf row .cid) c
+
+-- an expired pair of the CID
+abbrev pub lapsed : ℕ → Cid → Pair → Bool
+lapsed now c p = same (p .cid) c && expired now (p .reading)
 
 -- what a sweep answers: the pair of number 4, or nothing
 abbrev pub answerOf : Option Key → SweepAnswer
 answerOf none = Quiet
 answerOf (some k) = TimedOut (k .cid) (k .universe)
+
+abbrev pub noteOf : Option Pair → SweepAnswer
+noteOf none = Quiet
+noteOf (some p) = TimedOut (p .cid) (p .universe)
 
 abbrev pub sweepNumberOf : SweepAnswer → ℕ
 sweepNumberOf Quiet = 0
@@ -83,3 +104,12 @@ sweepNumberOf (TimedOut c u) = 4
 abbrev pub sweepValuesOf : SweepAnswer → List Value
 sweepValuesOf Quiet = []
 sweepValuesOf (TimedOut c u) = source c ∷ number u ∷ []
+
+-- what the walk along pairs and sources requires
+pub record Walkable (n : ℕ) (pairs : Rows) (m : ℕ) (sources : Rows) : Type 0 where
+  pub n-fits : n ≤ 1024
+  pub pairs-room : length pairs ≡ 1024
+  pub m-fits : m ≤ 1024
+  pub sources-room : length sources ≡ 1024
+  pub pairs-ascend : Ascending key-before keyOf (pairsOf n pairs)
+  pub sources-ascend : Ascending before itself (sourcesOf m sources)

@@ -1,5 +1,7 @@
 // Document 01, 'Pair tables': pairs of a CID and a universe with their last sequence number and reading, and the CIDs that count as sources.
 mod rows;
+mod search;
+mod sweep;
 
 use rules::Cid;
 
