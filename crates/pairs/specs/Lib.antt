@@ -3,3 +3,5 @@ pub mod Laws
 pub mod View
 pub mod Rows
 pub mod Sweep
+pub mod Admit
+pub mod Calls

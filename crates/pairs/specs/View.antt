@@ -2,13 +2,14 @@
 -- the header says how many of each are in use.
 -- Assumes nothing.
 use mathlib.Core.Path.{_≡_}
-use mathlib.Core.Bool.{Bool, true, false, not, _&&_}
+use mathlib.Core.Logic.{_⊎_}
+use mathlib.Core.Bool.{Bool, true, false, not, cond, _&&_}
 use mathlib.Core.Option.{Option, none, some}
 use mathlib.Core.List.{List, [], _∷_, map}
 use Prim.Native.Nat.{ℕ, _≤_, _/_, _%_}
-use lib.Dec.{ltb, eqb}
+use lib.Dec.{ltb, leb, eqb}
 use lib.ListN.{length, take, getD}
-use Rattle.table.specs.Table.{any, find, Ascending}
+use Rattle.table.specs.Table.{any, find, store, Ascending}
 use Rattle.table.specs.Place.{place}
 use Rattle.rules.specs.declared.Cid.{Cid}
 use Rattle.rules.specs.Cid.{same, before}
@@ -18,9 +19,11 @@ use Rattle.pairs.specs.declared.Pair.{Pair}
 use Rattle.pairs.specs.declared.PairTable.{PairTable}
 use Rattle.pairs.specs.declared.Found.{Found}
 use Rattle.pairs.specs.declared.Found.the-variants.{At, Nothing}
+use Rattle.pairs.specs.declared.Checked.{Checked}
+use Rattle.pairs.specs.declared.Checked.the-variants.{Accepted, UniverseTimeout, SourcesExceeded, OutOfSequence, PairsFull, SourceWithoutPairs}
 use Rattle.pairs.specs.declared.SweepAnswer.{SweepAnswer}
 use Rattle.pairs.specs.declared.SweepAnswer.the-variants.{Quiet, TimedOut}
-use Rattle.pairs.specs.Table.{Key, key, keyOf, key-before, itself, Table, pairAt, has, Ordered}
+use Rattle.pairs.specs.Table.{Key, key, keyOf, key-before, itself, Table, capacity, empty, pairAt, has, without, unknown, first-of, sequence-stop, Ordered}
 
 abbrev pub Rows : Type 0
 Rows = List (List ℕ)
@@ -113,3 +116,55 @@ pub record Walkable (n : ℕ) (pairs : Rows) (m : ℕ) (sources : Rows) : Type 0
   pub sources-room : length sources ≡ 1024
   pub pairs-ascend : Ascending key-before keyOf (pairsOf n pairs)
   pub sources-ascend : Ascending before itself (sourcesOf m sources)
+
+-- ── what the calls ensure ──
+-- a table over any rows is the empty one
+pub record Emptied (t : PairTable) : Type 0 where
+  pub is-empty : (pairs sources : Rows) → tableOf t pairs sources ≡ empty
+  pub kept : (pairs sources : Rows) → length pairs ≡ 1024 → length sources ≡ 1024 → Kept t pairs sources
+
+-- table, rows and answer are what the definition says, and the next call may follow
+pub record Follows {A : Type 0} (t : PairTable) (pairs sources : Rows) (answer : A) (said : Table × A) : Type 0 where
+  pub table-is : tableOf t pairs sources ≡ said .0
+  pub answer-is : answer ≡ said .1
+  pub kept : Kept t pairs sources
+
+-- a sweep with its answer, and a removal that says whether the pair was there
+abbrev pub answered : Table × Option Key → Table × SweepAnswer
+answered r = (r .0, answerOf (r .1))
+
+abbrev pub removal : Key → Table → Table × Bool
+removal k t = (without k t, not (unknown (pairAt k (t .pairs))))
+
+-- ── the pairs alone, for the steps of an arrival ──
+pub record PairsKept (t : PairTable) (pairs : Rows) : Type 0 where
+  pub pairs-room : length pairs ≡ 1024
+  pub count-fits : t .count ≤ 1024
+  pub none-older : older (t .oldest) (pairsOf (t .count) pairs) ≡ false
+
+-- the pair is stored, and the list of sources is as it was
+pub record Stored (t : PairTable) (pairs : Rows) (u : PairTable) (after : Rows) (p : Pair) : Type 0 where
+  pub pairs-are : pairsOf (u .count) after ≡ store key-before keyOf p (pairsOf (t .count) pairs)
+  pub same-sources : u .«source_count» ≡ t .«source_count»
+  pub same-tidy : u .tidy ≡ t .tidy
+  pub kept : PairsKept u after
+
+-- what stops an arrival for the pairs' sake: rules 3 and 4
+unfoldable pub pair-stop : Pair → List Pair → Option Checked
+pair-stop p ps =
+    first-of (cond (unknown (pairAt (keyOf p) ps) && leb capacity (length ps)) (some PairsFull) none)
+    (sequence-stop (p .sequence) (pairAt (keyOf p) ps))
+
+-- a pair is stored, or stopped and all is left as it was
+abbrev pub Admitted : PairTable → Rows → PairTable → Rows → Checked → Pair → Type 0
+Admitted t pairs u after answer p =
+    ((pair-stop p (pairsOf (t .count) pairs) ≡ none) × (answer ≡ Accepted) × Stored t pairs u after p)
+    ⊎ ((pair-stop p (pairsOf (t .count) pairs) ≡ some answer) × (u ≡ t) × (after ≡ pairs))
+
+abbrev pub accepted : Checked → Bool
+accepted Accepted = true
+accepted (UniverseTimeout c u) = false
+accepted (SourcesExceeded n) = false
+accepted (OutOfSequence a l d) = false
+accepted PairsFull = false
+accepted SourceWithoutPairs = false

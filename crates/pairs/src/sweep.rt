@@ -153,7 +153,7 @@ pub fn note(
     }
     let row = sources[0];
     let cid = cid_of(row);
-    let SweepAnswer::TimedOut(_source, _universe) = lowest_expired(pairs, n, cid, reading) else {
+    let SweepAnswer::TimedOut(_, _) = lowest_expired(pairs, n, cid, reading) else {
         return SweepAnswer::Quiet;
     };
     last_note(pairs, n, sources, m, reading)
