@@ -6,7 +6,7 @@ use mathlib.Core.Logic.{_⊎_}
 use mathlib.Core.Bool.{Bool, true, false, not, cond, _&&_}
 use mathlib.Core.Option.{Option, none, some}
 use mathlib.Core.List.{List, [], _∷_, map}
-use Prim.Native.Nat.{ℕ, _≤_, _/_, _%_}
+use Prim.Native.Nat.{ℕ, _≤_, _<_, _/_, _%_}
 use lib.Dec.{ltb, leb, eqb}
 use lib.ListN.{length, take, getD}
 use Rattle.table.specs.Table.{any, find, store, Ascending}
@@ -160,6 +160,20 @@ abbrev pub Admitted : PairTable → Rows → PairTable → Rows → Checked → 
 Admitted t pairs u after answer p =
     ((pair-stop p (pairsOf (t .count) pairs) ≡ none) × (answer ≡ Accepted) × Stored t pairs u after p)
     ⊎ ((pair-stop p (pairsOf (t .count) pairs) ≡ some answer) × (u ≡ t) × (after ≡ pairs))
+
+-- what the steps of an arrival require
+pub record NewPair (t : PairTable) (pairs : Rows) (p : Pair) : Type 0 where
+  pub kept : PairsKept t pairs
+  pub room : t .count < 1024
+  pub missing : pairAt (keyOf p) (pairsOf (t .count) pairs) ≡ none
+
+pub record KnownPair (t : PairTable) (pairs : Rows) (at : ℕ) (p : Pair) : Type 0 where
+  pub kept : PairsKept t pairs
+  pub stands : At at ≡ foundAt (keyOf p) (pairsOf (t .count) pairs)
+
+pub record NewSource (t : PairTable) (pairs sources : Rows) (p : Pair) : Type 0 where
+  pub kept : Kept t pairs sources
+  pub missing : find before itself (p .cid) (sourcesOf (t .«source_count») sources) ≡ none
 
 abbrev pub accepted : Checked → Bool
 accepted Accepted = true

@@ -13,7 +13,7 @@ ghost use Rattle.table.specs.Table.{store, remove};
 ghost use Rattle.rules.specs.Age.{expired};
 ghost use Rattle.rules.specs.Cid.{before};
 ghost use Rattle.pairs.specs.Table.{key, keyOf, key-before, itself, pairAt, has, reached, sweep, admit, check};
-ghost use Rattle.pairs.specs.View.{pairsOf, sourcesOf, tableOf, foundAt, answered, removal, accepted, Kept, Emptied, Follows, PairsKept, Stored, Admitted};
+ghost use Rattle.pairs.specs.View.{pairsOf, sourcesOf, tableOf, foundAt, answered, removal, accepted, Kept, Emptied, Follows, PairsKept, Stored, Admitted, NewPair, KnownPair, NewSource};
 use crate::rows::insert_pair;
 use crate::rows::insert_source;
 use crate::rows::pair_of;
@@ -300,5 +300,183 @@ impl PairTable {
             return self.sweep_announced(pairs, sources, reading);
         }
         self.sweep_expired(pairs, sources, reading)
+    }
+
+    // A pair that is not held goes in at its place.
+    pub fn store_new(self, pairs: &mut [[u64; 4]; 1024], pair: Pair) -> PairTable
+        requires { ⌜ NewPair self (now pairs) pair ⌝ }
+        ensures { λ r. ⌜ Stored self (now (pairs .entry)) r (now (pairs .exit)) pair ⌝ }
+    {
+        let n = self.count;
+        let cid = pair.cid;
+        let at = place_of(&*pairs, n, cid, pair.universe);
+        let row = pair_row(pair);
+        insert_pair(&mut *pairs, n, at, row);
+        let oldest = earlier(self.oldest, pair.reading);
+        PairTable {
+            count: n + 1,
+            source_count: self.source_count,
+            oldest: oldest,
+            tidy: self.tidy,
+        }
+    }
+
+    // A pair takes the place of the one with its key.
+    pub fn store_known(self, pairs: &mut [[u64; 4]; 1024], at: usize, pair: Pair) -> PairTable
+        requires { ⌜ KnownPair self (now pairs) at pair ⌝ }
+        ensures { λ r. ⌜ Stored self (now (pairs .entry)) r (now (pairs .exit)) pair ⌝ }
+    {
+        let row = pair_row(pair);
+        pairs[at] = row;
+        let oldest = earlier(self.oldest, pair.reading);
+        PairTable {
+            count: self.count,
+            source_count: self.source_count,
+            oldest: oldest,
+            tidy: self.tidy,
+        }
+    }
+
+    // Rules 3 to 5 for the pairs: full, refused, or stored.
+    pub fn admit_pair(self, pairs: &mut [[u64; 4]; 1024], pair: Pair) -> Arrival
+        requires { ⌜ PairsKept self (now pairs) ⌝ }
+        ensures { λ r. ⌜ Admitted self (now (pairs .entry)) (r .table) (now (pairs .exit)) (r .answer) pair ⌝ }
+    {
+        let cid = pair.cid;
+        let Found::At(at) = self.find(&*pairs, cid, pair.universe) else {
+            if 1024 <= self.count {
+                return Arrival {
+                    table: self,
+                    answer: Checked::PairsFull,
+                };
+            }
+            let table = self.store_new(&mut *pairs, pair);
+            return Arrival {
+                table: table,
+                answer: Checked::Accepted,
+            };
+        };
+        let row = pairs[at];
+        let last = pair_of(row);
+        let difference = sequence_difference(pair.sequence, last.sequence);
+        if is_sequence_refused(difference) {
+            return Arrival {
+                table: self,
+                answer: Checked::OutOfSequence(pair.sequence, last.sequence, difference),
+            };
+        }
+        let table = self.store_known(&mut *pairs, at, pair);
+        Arrival {
+            table: table,
+            answer: Checked::Accepted,
+        }
+    }
+
+    // Whether a listed CID has a pair.
+    pub fn owns_pair(self, pairs: &[[u64; 4]; 1024], cid: Cid) -> bool
+        requires { ⌜ (self .count ≤ 1024) × (length (now pairs) ≡ 1024) × (self .tidy ≡ true → has (pairsOf (self .count) (now pairs)) cid ≡ true) ⌝ }
+        ensures { λ r. ⌜ r ≡ has (pairsOf (self .count) (now (pairs .entry))) cid ⌝ }
+    {
+        if self.tidy {
+            return true;
+        }
+        has_pair(pairs, self.count, cid)
+    }
+
+    // Rules 2 to 5 for a CID that is not listed.
+    pub fn admit_source(
+        self,
+        pairs: &mut [[u64; 4]; 1024],
+        sources: &mut [[u64; 2]; 1024],
+        limit: SourceLimit,
+        pair: Pair,
+    ) -> Arrival
+        requires { ⌜ NewSource self (now pairs) (now sources) pair ⌝ }
+        ensures { λ r. ⌜ Follows (r .table) (now (pairs .exit)) (now (sources .exit)) (r .answer) (admit limit pair (tableOf self (now (pairs .entry)) (now (sources .entry)))) ⌝ }
+    {
+        let n = self.source_count;
+        if is_reached(limit, n) {
+            return Arrival {
+                table: self,
+                answer: Checked::SourcesExceeded(n),
+            };
+        }
+        if 1024 <= n {
+            return Arrival {
+                table: self,
+                answer: Checked::PairsFull,
+            };
+        }
+        let r = self.admit_pair(&mut *pairs, pair);
+        let t = r.table;
+        let answer = r.answer;
+        if is_accepted(answer) {
+            let cid = pair.cid;
+            let at = source_place(&*sources, n, cid);
+            let row = source_row(cid);
+            insert_source(&mut *sources, n, at, row);
+            let table = PairTable {
+                count: t.count,
+                source_count: n + 1,
+                oldest: t.oldest,
+                tidy: t.tidy,
+            };
+            return Arrival {
+                table: table,
+                answer: Checked::Accepted,
+            };
+        }
+        Arrival {
+            table: t,
+            answer: answer,
+        }
+    }
+
+    // Rules 2 to 5, on the table as swept.
+    pub fn admit(
+        self,
+        pairs: &mut [[u64; 4]; 1024],
+        sources: &mut [[u64; 2]; 1024],
+        limit: SourceLimit,
+        pair: Pair,
+    ) -> Arrival
+        requires { ⌜ Kept self (now pairs) (now sources) ⌝ }
+        ensures { λ r. ⌜ Follows (r .table) (now (pairs .exit)) (now (sources .exit)) (r .answer) (admit limit pair (tableOf self (now (pairs .entry)) (now (sources .entry)))) ⌝ }
+    {
+        let cid = pair.cid;
+        let Found::At(_) = find_source(&*sources, self.source_count, cid) else {
+            return self.admit_source(pairs, sources, limit, pair);
+        };
+        if self.owns_pair(&*pairs, cid) {
+            return self.admit_pair(pairs, pair);
+        }
+        Arrival {
+            table: self,
+            answer: Checked::SourceWithoutPairs,
+        }
+    }
+
+    // An arrival: sweep, then rules 2 to 5. The pair carries the arriving sequence number and the reading.
+    pub fn check_seq_number(
+        self,
+        pairs: &mut [[u64; 4]; 1024],
+        sources: &mut [[u64; 2]; 1024],
+        limit: SourceLimit,
+        announce: bool,
+        pair: Pair,
+    ) -> Arrival
+        requires { ⌜ Kept self (now pairs) (now sources) ⌝ }
+        ensures { λ r. ⌜ Follows (r .table) (now (pairs .exit)) (now (sources .exit)) (r .answer) (check limit announce pair (tableOf self (now (pairs .entry)) (now (sources .entry)))) ⌝ }
+    {
+        let s = self.sweep(&mut *pairs, &mut *sources, announce, pair.reading);
+        let t = s.table;
+        let told = s.answer;
+        let SweepAnswer::TimedOut(cid, universe) = told else {
+            return t.admit(pairs, sources, limit, pair);
+        };
+        Arrival {
+            table: t,
+            answer: Checked::UniverseTimeout(cid, universe),
+        }
     }
 }
