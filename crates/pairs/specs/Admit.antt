@@ -2,34 +2,31 @@
 -- Assumes nothing.
 use mathlib.Core.Path.{_≡_, refl, sym, ap, _∙_}
 use mathlib.Core.Logic.{_≢_}
-use mathlib.Core.Bool.{Bool, true, false, not, cond, _&&_, _||_}
+use mathlib.Core.Bool.{Bool, true, false, not, _&&_}
 use mathlib.Core.Option.{Option, none, some}
 use mathlib.Core.List.{List, [], _∷_, map}
-use Prim.Native.Nat.{ℕ, suc, _+_, _-_, _≤_, _<_}
+use Prim.Native.Nat.{ℕ, _+_, _-_, _≤_, _<_}
 use native.Mathlib.Omega.{arith}
-use native.Mathlib.Numerals.{add-one}
 use lib.Dec.{ltb, leb}
-use lib.ListN.{length, take, drop, getD, set, length-take, length-map}
+use lib.ListN.{length, take, getD, set, length-take, length-map}
 use lib.Seq.{getD-take}
-use borrow.Author.Tests.{ltb-true, ltb-false, leb-true, leb-false, lt-ltb, le-ltb, lt-leb, le-leb}
+use borrow.Author.Tests.{ltb-false, le-ltb, lt-leb, le-leb}
 use Rattle.table.specs.Cases.{split, clash, found, missing}
-use Rattle.table.specs.Order.{Order, tri, keyed, asym, beyond, differs}
-use Rattle.table.specs.Table.{keep, any, find, store, remove, Ascending, Under, other-than, keep-all, find-key, remove-keep, store-known, remove-absent}
+use Rattle.table.specs.Order.{Order, tri, keyed}
+use Rattle.table.specs.Table.{keep, any, find, store, remove, Ascending, other-than, keep-all, find-key, remove-keep, store-known}
 use Rattle.table.specs.Place.{place, insertAt, removeAt, store-insert, store-replace, remove-place, insertAt-map, removeAt-map, set-map, getD-map, found-place}
 use Rattle.table.specs.Arrays.{replace}
 use Rattle.rules.specs.declared.Cid.{Cid}
-use Rattle.rules.specs.Cid.{same, before, cid-order, same-refl, same-path}
+use Rattle.rules.specs.Cid.{same, before, cid-order, same-refl}
 use Rattle.rules.specs.Age.{expired}
 use Rattle.rules.specs.Sequence.{difference, refused}
 use Rattle.settings.specs.declared.SourceLimit.{SourceLimit}
 use Rattle.pairs.specs.declared.Pair.{Pair}
-use Rattle.pairs.specs.declared.Found.{Found}
 use Rattle.pairs.specs.declared.Found.the-variants.{At, Nothing}
-use Rattle.pairs.specs.declared.Checked.{Checked}
-use Rattle.pairs.specs.declared.Checked.the-variants.{Accepted, UniverseTimeout, SourcesExceeded, OutOfSequence, PairsFull, SourceWithoutPairs}
-use Rattle.pairs.specs.Table.{Key, key, keyOf, key-before, key-order, itself, Table, capacity, pairAt, has, listed, leave, live, swept, unknown, full, first-of, sequence-stop, source-stop, reached, stop, recorded}
-use Rattle.pairs.specs.Laws.{same-not, has-store, has-remove, stale}
-use Rattle.pairs.specs.View.{Rows, cidOf, pairOf, pairsOf, sourcesOf, placed, older, lonely, pair-stop}
+use Rattle.pairs.specs.declared.Checked.the-variants.{Accepted, SourcesExceeded, OutOfSequence, PairsFull, SourceWithoutPairs}
+use Rattle.pairs.specs.Table.{Key, key, keyOf, key-before, key-order, itself, Table, capacity, pairAt, has, listed, leave, live, swept, unknown, full, sequence-stop, source-stop, reached, stop, recorded}
+use Rattle.pairs.specs.Laws.{has-store, has-remove, stale}
+use Rattle.pairs.specs.View.{Rows, placed, older, lonely, pair-stop}
 
 -- ── what finding says ──
 pub placed-at : {A : Type 0} (j i : ℕ) (o : Option A) → placed j o ≡ At i → (a : A) × (o ≡ some a) × (j ≡ i)

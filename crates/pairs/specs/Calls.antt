@@ -1,32 +1,30 @@
 -- What each return of a call comes to, from what its parts have done to the rows.
 -- Assumes nothing.
 use mathlib.Core.Path.{_≡_, refl, sym, ap, subst, _∙_}
-use mathlib.Core.Logic.{_≢_, ⊎-elim}
-use mathlib.Core.Bool.{Bool, true, false, not, cond, _&&_}
+use mathlib.Core.Logic.{⊎-elim}
+use mathlib.Core.Bool.{Bool, true, false, not, _&&_}
 use mathlib.Core.Option.{Option, none, some}
-use mathlib.Core.List.{List, [], map}
+use mathlib.Core.List.{List, map}
 use Prim.Native.Nat.{ℕ, _+_, _≤_, _<_}
 use native.Mathlib.Omega.{arith}
-use lib.Dec.{leb}
 use lib.ListN.{length, take, length-take, length-map}
 use borrow.Author.Tests.{le-leb, lt-leb}
-use Rattle.table.specs.Cases.{split, clash, found, missing}
-use Rattle.table.specs.Table.{keep, find, store, remove, Ascending}
+use Rattle.table.specs.Cases.{split, clash}
+use Rattle.table.specs.Table.{keep, find, store, remove}
 use Rattle.rules.specs.declared.Cid.{Cid}
-use Rattle.rules.specs.Cid.{before, cid-order}
+use Rattle.rules.specs.Cid.{before}
 use Rattle.rules.specs.Age.{expired}
 use Rattle.settings.specs.declared.SourceLimit.{SourceLimit}
 use Rattle.pairs.specs.declared.Pair.{Pair}
 use Rattle.pairs.specs.declared.PairTable.{PairTable}
 use Rattle.pairs.specs.declared.Checked.{Checked}
 use Rattle.pairs.specs.declared.Checked.the-variants.{Accepted, UniverseTimeout, SourcesExceeded, OutOfSequence, PairsFull, SourceWithoutPairs}
-use Rattle.pairs.specs.declared.SweepAnswer.{SweepAnswer}
 use Rattle.pairs.specs.declared.SweepAnswer.the-variants.{Quiet, TimedOut}
-use Rattle.pairs.specs.Table.{Key, key, keyOf, key-before, key-order, itself, Table, capacity, pairAt, has, listed, leave, without, live, swept, noted, told, sweep, reached, stop, recorded, admit, after-sweep, check, Ordered}
-use Rattle.pairs.specs.Laws.{stale, without-unknown, without-known, ordered-without, ordered-swept, noted-none, swept-quiet, admit-stored, admit-stopped, ordered-admit, check-quiet, check-told}
-use Rattle.pairs.specs.View.{Rows, cidOf, pairOf, pairsOf, sourcesOf, tableOf, older, lonely, Kept, Follows, answered, answerOf, removal, noteOf, pair-stop, PairsKept, Stored, Admitted, accepted}
+use Rattle.pairs.specs.Table.{Key, key, keyOf, key-before, itself, Table, capacity, pairAt, has, listed, leave, without, live, swept, noted, told, sweep, reached, stop, recorded, admit, check, Ordered}
+use Rattle.pairs.specs.Laws.{without-unknown, without-known, ordered-without, ordered-swept, noted-none, swept-quiet, admit-stored, admit-stopped, ordered-admit, check-quiet, check-told}
+use Rattle.pairs.specs.View.{Rows, cidOf, pairsOf, sourcesOf, tableOf, older, Kept, Follows, answered, answerOf, removal, noteOf, pair-stop, PairsKept, Stored, Admitted, accepted}
 use Rattle.pairs.specs.Sweep.{fresh, note-none, note-some}
-use Rattle.pairs.specs.Admit.{older-removed, older-stored, lonely-without, lonely-swept, lonely-recorded, swept-idle, stop-listed, stop-lonely, stop-limit, stop-full, stop-unlisted, listed-some, listed-none, recorded-listed, never-accepted}
+use Rattle.pairs.specs.Admit.{older-removed, older-stored, lonely-without, lonely-swept, lonely-recorded, swept-idle, stop-listed, stop-limit, stop-full, stop-unlisted, listed-some, listed-none, recorded-listed, never-accepted}
 
 pub accepted-is : (a : Checked) → accepted a ≡ true → a ≡ Accepted
 accepted-is Accepted e = refl

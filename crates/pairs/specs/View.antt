@@ -23,7 +23,7 @@ use Rattle.pairs.specs.declared.Checked.{Checked}
 use Rattle.pairs.specs.declared.Checked.the-variants.{Accepted, UniverseTimeout, SourcesExceeded, OutOfSequence, PairsFull, SourceWithoutPairs}
 use Rattle.pairs.specs.declared.SweepAnswer.{SweepAnswer}
 use Rattle.pairs.specs.declared.SweepAnswer.the-variants.{Quiet, TimedOut}
-use Rattle.pairs.specs.Table.{Key, key, keyOf, key-before, itself, Table, capacity, empty, pairAt, has, without, unknown, first-of, sequence-stop, Ordered}
+use Rattle.pairs.specs.Table.{Key, keyOf, key-before, itself, Table, capacity, empty, pairAt, has, without, unknown, first-of, sequence-stop, Ordered}
 
 abbrev pub Rows : Type 0
 Rows = List (List ℕ)
@@ -128,6 +128,10 @@ pub record Follows {A : Type 0} (t : PairTable) (pairs sources : Rows) (answer :
   pub table-is : tableOf t pairs sources ≡ said .0
   pub answer-is : answer ≡ said .1
   pub kept : Kept t pairs sources
+
+-- an arriving pair
+abbrev pub arriving : Cid → ℕ → ℕ → ℕ → Pair
+arriving c u s r = record { cid = c; universe = u; sequence = s; reading = r }
 
 -- a sweep with its answer, and a removal that says whether the pair was there
 abbrev pub answered : Table × Option Key → Table × SweepAnswer

@@ -1,7 +1,7 @@
 -- The CID is listed or not; listed, it has a pair or not.
 -- Assumes nothing.
-use mathlib.Core.Path.{_≡_, refl, sym, ap, subst, _∙_}
-use mathlib.Core.Option.{Option, none, some}
+use mathlib.Core.Path.{_≡_, sym, _∙_}
+use mathlib.Core.Option.{Option, some}
 use Prim.Native.Nat.{ℕ}
 use Rattle.table.specs.Table.{find}
 use Rattle.table.specs.Place.{place}

@@ -1,17 +1,15 @@
 -- The pair is unknown: full, or it goes in. It is known: refused, or it takes the place of the last one.
 -- Assumes nothing.
-use mathlib.Core.Path.{_≡_, refl, sym, ap, subst, _∙_}
-use mathlib.Core.Logic.{_⊎_, inl, inr}
-use mathlib.Core.Bool.{true, false}
+use mathlib.Core.Path.{_≡_, refl, sym, ap, _∙_}
+use mathlib.Core.Logic.{inl, inr}
 use mathlib.Core.Option.{none, some}
-use mathlib.Core.List.{[]}
-use Prim.Native.Nat.{ℕ, _<_}
+use Prim.Native.Nat.{_<_}
 use native.Mathlib.Omega.{arith}
 use lib.IntN.{ℤ}
 use mir.Syntax.{w8}
 use mir.Val.{toZ, ofZ}
 use mir.ValLaws.{toZ-ofZ}
-use lib.ListN.{getD, length}
+use lib.ListN.{length}
 use Rattle.table.specs.Place.{place}
 use Rattle.rules.specs.Sequence.{difference, refused}
 use Rattle.pairs.specs.declared.Pair.{Pair}

@@ -1,8 +1,6 @@
 -- The limit is reached, the list is full, or the pairs decide; with a stored pair its CID joins the list.
 -- Assumes nothing.
-use mathlib.Core.Path.{_≡_, refl, sym, ap, subst, _∙_}
-use Prim.Native.Nat.{ℕ}
-use native.Mathlib.Omega.{arith}
+use mathlib.Core.Path.{sym, _∙_}
 use Rattle.rules.specs.Cid.{before, cid-order}
 use Rattle.pairs.specs.Table.{itself}
 use Rattle.pairs.specs.View.{cidOf}

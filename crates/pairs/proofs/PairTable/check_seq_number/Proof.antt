@@ -1,9 +1,8 @@
 -- The sweep gives number 4, or the arrival goes on with the table as swept.
 -- Assumes nothing.
-use mathlib.Core.Path.{_≡_, refl, sym, ap, subst, _∙_}
-use mathlib.Core.Option.{Option}
+use mathlib.Core.Path.{refl, sym, ap, subst, _∙_}
 use Rattle.pairs.specs.declared.Checked.{Checked}
-use Rattle.pairs.specs.Table.{Key, Table, sweep, admit, check}
+use Rattle.pairs.specs.Table.{Table, sweep, admit}
 use Rattle.pairs.specs.View.{tableOf, Follows}
 use Rattle.pairs.specs.Calls.{check-timeout, check-goes}
 use borrow.Author.Needs.{needs}

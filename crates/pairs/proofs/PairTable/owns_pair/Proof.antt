@@ -1,6 +1,6 @@
 -- The header knows it, or the pairs are searched.
 -- Assumes nothing.
-use mathlib.Core.Path.{_≡_, refl, sym, ap, subst, _∙_}
+use mathlib.Core.Path.{sym}
 use borrow.Author.Needs.{needs}
 use Rattle.pairs.proofs.PairTable.owns_pair.Statement.{statement}
 use Rattle.pairs.proofs.PairTable.owns_pair.Tie as tie

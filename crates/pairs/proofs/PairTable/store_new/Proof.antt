@@ -1,7 +1,6 @@
 -- The pair goes in at its place; the rows after it move up.
 -- Assumes nothing.
-use mathlib.Core.Path.{_≡_, refl, sym, ap, subst, _∙_}
-use Prim.Native.Nat.{ℕ, _+_}
+use Prim.Native.Nat.{_+_}
 use native.Mathlib.Omega.{arith}
 use Rattle.pairs.specs.Table.{keyOf, key-before, key-order}
 use Rattle.pairs.specs.View.{pairOf}
