@@ -3,3 +3,4 @@ pub mod Order
 pub mod Table
 pub mod Place
 pub mod Arrays
+pub mod Parts

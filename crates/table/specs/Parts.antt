@@ -1,0 +1,61 @@
+-- A list laid over a part of another, as a copying loop leaves it: what it replaces, and two laid one after the other.
+-- Assumes nothing.
+use mathlib.Core.Path.{_≡_, sym, _∙_}
+use mathlib.Core.List.{List, [], _∷_, _++_, append-assoc}
+use Prim.Native.Nat.{ℕ, zero, suc, _+_, _-_, _≤_, _<_}
+use native.Mathlib.Omega.{arith}
+use native.Mathlib.Nat.{add-assoc, zero-add, add-zero}
+use lib.ListN.{length, take, drop, length-append, length-drop, take-append-drop}
+use lib.Seq.{paste, take-all, take-length, length-take-le, drop-append-add, take-at, drop-drop}
+
+-- xs over what stands in l from the place `at` on
+abbrev pub pasted : {A : Type 0} → List A → ℕ → List A → List A
+pasted l at xs = take at l ++ (xs ++ drop (at + length xs) l)
+
+module _ {A : Type 0} (l : List A) (at : ℕ) where
+  -- what a loop that copies element by element ends with
+  pub paste-whole : (xs : List A) → paste l at xs (length xs) ≡ pasted l at xs
+  paste-whole xs = rw (take-length xs) (append-assoc (take at l) xs (drop (at + length xs) l))
+
+  pub pasted-none : pasted l at [] ≡ l
+  pasted-none = rw (add-zero at) (take-append-drop at l)
+
+  pub length-pasted : (xs : List A) → at + length xs ≤ length l → length (pasted l at xs) ≡ length l
+  length-pasted xs h =
+      omega (arith, length-append (take at l) (xs ++ drop (at + length xs) l), length-append xs (drop (at + length xs) l), length-take-le at l (omega arith), length-drop (at + length xs) l)
+
+  module _ (xs : List A) (h : at ≤ length l) where
+    front : length (take at l ++ xs) ≡ at + length xs
+    front = omega (arith, length-append (take at l) xs, length-take-le at l h)
+
+    apart : pasted l at xs ≡ (take at l ++ xs) ++ drop (at + length xs) l
+    apart = sym (append-assoc (take at l) xs (drop (at + length xs) l))
+
+    -- up to its end
+    pub take-pasted : take (at + length xs) (pasted l at xs) ≡ take at l ++ xs
+    take-pasted = rw apart (take-at (take at l ++ xs) (drop (at + length xs) l) (at + length xs) front)
+
+    -- what stands after it is unchanged
+    pub drop-past : (m : ℕ) → drop (at + length xs + m) (pasted l at xs) ≡ drop (at + length xs + m) l
+    drop-past m =
+        let e = drop-append-add (take at l ++ xs) (drop (at + length xs) l) m in
+        rw apart ((rw front at e) ∙ drop-drop m (at + length xs) l)
+
+    pub drop-pasted : (n : ℕ) → at + length xs ≤ n → drop n (pasted l at xs) ≡ drop n l
+    drop-pasted n k =
+        let e : n ≡ at + length xs + (n - (at + length xs)) = omega arith in
+        rw e (drop-past (n - (at + length xs)))
+
+    -- two laid one after the other are one
+    pub pasted-append : (ys : List A) → pasted (pasted l at xs) (at + length xs) ys ≡ pasted l at (xs ++ ys)
+    pasted-append ys =
+        rw (take-pasted, drop-past (length ys), length-append xs ys, ← add-assoc at (length xs) (length ys), append-assoc xs ys)
+        (append-assoc (take at l) xs (ys ++ drop (at + length xs + length ys) l))
+
+-- over the front
+pub pasted-front : {A : Type 0} (l xs : List A) → pasted l 0 xs ≡ xs ++ drop (length xs) l
+pasted-front l xs = rw (zero-add (length xs))
+
+-- a part that goes to the end
+pub part-rest : {A : Type 0} (l : List A) (n : ℕ) → take (length l - n) (drop n l) ≡ drop n l
+part-rest l n = take-all (length l - n) (drop n l) (omega (arith, length-drop n l))
