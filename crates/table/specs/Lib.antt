@@ -4,3 +4,4 @@ pub mod Table
 pub mod Place
 pub mod Arrays
 pub mod Parts
+pub mod Gap

@@ -6,7 +6,7 @@ use Prim.Native.Nat.{ℕ, zero, suc, _+_, _-_, _≤_, _<_}
 use native.Mathlib.Omega.{arith}
 use native.Mathlib.Nat.{add-assoc, zero-add, add-zero}
 use lib.ListN.{length, take, drop, length-append, length-drop, take-append-drop}
-use lib.Seq.{paste, take-all, take-length, length-take-le, drop-append-add, take-at, drop-drop}
+use lib.Seq.{paste, take-all, take-add, take-length, length-take-le, drop-append-add, take-at, drop-drop}
 
 -- xs over what stands in l from the place `at` on
 abbrev pub pasted : {A : Type 0} → List A → ℕ → List A → List A
@@ -59,3 +59,9 @@ pasted-front l xs = rw (zero-add (length xs))
 -- a part that goes to the end
 pub part-rest : {A : Type 0} (l : List A) (n : ℕ) → take (length l - n) (drop n l) ≡ drop n l
 part-rest l n = take-all (length l - n) (drop n l) (omega (arith, length-drop n l))
+
+-- past the first m elements
+pub pasted-shift : {A : Type 0} (l : List A) (m k : ℕ) (xs : List A) → pasted l (m + k) xs ≡ take m l ++ pasted (drop m l) k xs
+pasted-shift l m k xs =
+    let e : m + k + length xs ≡ m + (k + length xs) = omega arith in
+    rw (e, take-add m k l, ← drop-drop (k + length xs) m l) (append-assoc (take m l) (take k (drop m l)) (xs ++ drop (k + length xs) (drop m l)))

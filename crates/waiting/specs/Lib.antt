@@ -1,3 +1,4 @@
 pub mod Waiting
 pub mod Records
 pub mod Laws
+pub mod Entries
