@@ -5,8 +5,9 @@ use mathlib.Core.Bool.{Bool, true, false, not, cond}
 use mathlib.Core.List.{List, [], _∷_, _++_}
 use Prim.Native.Nat.{ℕ, zero, suc, _+_, _*_, _%_, _≤_, _<_, min}
 use native.Mathlib.Omega.{arith}
+use native.Mathlib.Nat.{mod-eq-of-lt}
 use lib.Dec.{ltb, eqb}
-use lib.ListN.{length, take, drop, getD, set, length-take, length-drop, length-append}
+use lib.ListN.{length, take, drop, getD, set, length-set, length-take, length-drop, length-append}
 use lib.Seq.{take-append-seam, take-append-le, take-take, drop-at, length-take-le, drop-drop}
 use Rattle.table.specs.Cases.{split}
 use Rattle.table.specs.Table.{Ascending, any, keep}
@@ -18,6 +19,7 @@ use Rattle.merge.specs.declared.SourceCid.{SourceCid}
 use Rattle.merge.specs.declared.SourceCid.the-variants.{Merged, Of}
 use Rattle.merge.specs.Merge.{Dmx, most-values}
 use Rattle.merge.specs.Views.{dmx}
+use Rattle.waiting.specs.Records.{bit}
 use Rattle.waiting.specs.Waiting.{universeOf, capacity, fresh, Within, Ordered}
 
 -- ── the view ──
@@ -36,11 +38,20 @@ headOf row = record {
   «recv_timestamp» = getD row 7 0;
 }
 
+-- a header's row
+abbrev pub rowOf : DmxData → ℕ → ℕ → ℕ → ℕ → List ℕ
+rowOf d present hi lo n =
+    d .universe ∷ d .«sync_uni» ∷ d .priority ∷ bit (d .preview) ∷ present ∷ hi ∷ lo ∷ d .«recv_timestamp» ∷ n ∷ []
+
 abbrev pub countOf : List ℕ → ℕ
 countOf row = min (getD row 8 0) 513
 
 abbrev pub entryOf : List ℕ → List ℕ → Dmx
 entryOf row block = dmx (headOf row) (take (countOf row) block)
+
+-- what a read past the end gives; no call makes one
+abbrev pub nothing : Dmx
+nothing = entryOf [] []
 
 -- every row with its block
 unfoldable pub entries : List (List ℕ) → List ℕ → List Dmx
@@ -159,3 +170,63 @@ any-entries t (suc n) [] store = refl
 any-entries t (suc n) (row ∷ rows) store =
     let r = any-entries t n rows (drop 513 store) in
     split (t (headOf row)) (λ h. rw h) (λ h. rw (h, r))
+
+-- a header written as a row reads as itself
+pub row-back : (d : DmxData) (present hi lo n : ℕ) → d .universe < 65536 → d .«sync_uni» < 65536 → d .priority < 256
+    → ownerOf (eqb present 0) (record { hi = hi; lo = lo }) ≡ d .«src_cid» → headOf (rowOf d present hi lo n) ≡ d
+unfolding headOf
+row-back d present hi lo n u a p e = λ i. record {
+  universe = mod-eq-of-lt u i;
+  «sync_uni» = mod-eq-of-lt a i;
+  priority = mod-eq-of-lt p i;
+  «src_cid» = e i;
+  preview = flag-back (d .preview) i;
+  «recv_timestamp» = d .«recv_timestamp»;
+}
+  where
+    flag-back : (b : Bool) → not (eqb (bit b) 0) ≡ b
+    flag-back true = refl
+    flag-back false = refl
+
+pub count-back : (d : DmxData) (present hi lo n : ℕ) → n ≤ 513 → countOf (rowOf d present hi lo n) ≡ n
+count-back d present hi lo n h = omega arith
+
+-- ── an entry put, and an entry moved ──
+-- the store past the blocks is not touched
+beyond-block : (store vs : List ℕ) (i : ℕ) → i < 64 → length vs ≤ 513 → store-length ≤ length store
+    → drop store-length (pasted store (i * 513) vs) ≡ drop store-length store
+beyond-block store vs i h f l = drop-pasted store (i * 513) vs (omega arith) store-length (omega arith)
+
+pub lent-put : (rows : List (List ℕ)) (store : List ℕ) (i : ℕ) (row vs : List ℕ) → Room rows store → i < 64 → length vs ≤ 513
+    → Lent rows store (set rows i row) (pasted store (i * 513) vs)
+lent-put rows store i row vs r h f =
+    let a = r .store-room in
+    record {
+      rows-same = length-set rows i row;
+      store-same = length-pasted store (i * 513) vs (omega arith);
+      beyond = beyond-block store vs i h f a;
+    }
+
+pub put-entry : (rows : List (List ℕ)) (store : List ℕ) (i : ℕ) (row vs : List ℕ) (d : DmxData) → Room rows store → i < 64 → length vs ≤ 513
+    → headOf row ≡ d → countOf row ≡ length vs → entries (set rows i row) (pasted store (i * 513) vs) ≡ set (entries rows store) i (dmx d vs)
+put-entry rows store i row vs d r h f e c =
+    let a = r .rows-length in
+    let b = r .store-room in
+    entry-set rows store i row vs (omega arith) (omega arith) f c ∙ ap (λ (x : DmxData). set (entries rows store) i (dmx x vs)) e
+
+pub length-block : (rows : List (List ℕ)) (store row : List ℕ) (i : ℕ) → Room rows store → i < 64 → length (take (countOf row) (drop (i * 513) store)) ≡ countOf row
+length-block rows store row i r h =
+    let b = r .store-room in
+    let m : countOf row ≤ 513 = omega arith in
+    length-take-le (countOf row) (drop (i * 513) store) (omega (arith, length-drop (i * 513) store))
+
+pub moved-entry : (rows : List (List ℕ)) (store : List ℕ) (from to : ℕ) → Room rows store → from < 64 → to < 64
+    → entries (set rows to (getD rows from [])) (pasted store (to * 513) (take (countOf (getD rows from [])) (drop (from * 513) store)))
+    ≡ set (entries rows store) to (getD (entries rows store) from nothing)
+moved-entry rows store from to r h g =
+    let row = getD rows from [] in
+    let vs = take (countOf row) (drop (from * 513) store) in
+    let l = length-block rows store row from r h in
+    let a = r .rows-length in
+    let m : countOf row ≤ 513 = omega arith in
+    put-entry rows store to row vs (headOf row) r g (omega arith) refl (sym l) ∙ ap (set (entries rows store) to) (sym (entry-at rows store from nothing (omega arith)))

@@ -2,3 +2,4 @@ pub mod Waiting
 pub mod Records
 pub mod Laws
 pub mod Entries
+pub mod Posts

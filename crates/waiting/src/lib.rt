@@ -1,4 +1,19 @@
 // Document 01, 'Waiting data' and 'Released bytes': data that waits for the synchronisation of its address.
+ghost use mathlib.Core.Path.{_≡_};
+ghost use mathlib.Core.Logic.{_≢_};
+ghost use mathlib.Core.List.{[]};
+ghost use Prim.Native.Nat.{_+_, _*_, _≤_, _<_};
+ghost use lib.ListN.{length, take, drop, getD, set};
+ghost use Rattle.table.specs.Place.{prefix};
+ghost use Rattle.table.specs.Parts.{pasted};
+ghost use Rattle.merge.specs.Views.{dmx};
+ghost use Rattle.waiting.specs.Entries.{headOf, countOf, ownerOf, rowOf, entryOf, entries, nothing, Room};
+ghost use Rattle.waiting.specs.Records.{bit};
+ghost use lib.Dec.{eqb};
+ghost use Rattle.waiting.specs.Posts.{Rowed, Changed, below, Apart};
+use merge::DmxData;
+use merge::SourceCid;
+use rules::Cid;
 
 // What storing answers.
 pub enum StoreAnswer {
@@ -7,4 +22,120 @@ pub enum StoreAnswer {
     MergeRefused,
     // Number 12: 64 other universes wait.
     WaitingFull,
+}
+
+// A flag as a word, and a word as a flag.
+fn word_of(on: bool) -> u64
+    ensures { λ r. ⌜ r ≡ bit on ⌝ }
+{
+    if on { 1 } else { 0 }
+}
+
+fn source_of(present: u64, hi: u64, lo: u64) -> SourceCid
+    ensures { λ r. ⌜ r ≡ ownerOf (eqb present 0) (record { hi = hi; lo = lo }) ⌝ }
+{
+    if present == 0 {
+        return SourceCid::Merged;
+    }
+    SourceCid::Of(Cid { hi, lo })
+}
+
+// A row as its header.
+pub fn head_of(row: [u64; 9]) -> DmxData
+    ensures { λ r. ⌜ r ≡ headOf row ⌝ }
+{
+    let source = source_of(row[4], row[5], row[6]);
+    DmxData {
+        universe: (row[0] % 65536) as u16,
+        sync_uni: (row[1] % 65536) as u16,
+        priority: (row[2] % 256) as u8,
+        src_cid: source,
+        preview: row[3] != 0,
+        recv_timestamp: row[7],
+    }
+}
+
+pub fn count_of(row: [u64; 9]) -> usize
+    ensures { λ r. ⌜ r ≡ countOf row ⌝ }
+{
+    if row[8] < 513 { row[8] as usize } else { 513 }
+}
+
+fn row_with(d: DmxData, present: u64, hi: u64, lo: u64, n: usize) -> [u64; 9]
+    ensures { λ r. ⌜ r ≡ rowOf d present hi lo n ⌝ }
+{
+    [
+        d.universe as u64,
+        d.sync_uni as u64,
+        d.priority as u64,
+        word_of(d.preview),
+        present,
+        hi,
+        lo,
+        d.recv_timestamp,
+        n as u64,
+    ]
+}
+
+// A header and a value count as a row.
+fn row_of(d: DmxData, n: usize) -> [u64; 9]
+    requires { ⌜ n ≤ 513 ⌝ }
+    ensures { λ r. ⌜ Rowed d n r ⌝ }
+{
+    let source = d.src_cid;
+    match source {
+        SourceCid::Merged => row_with(d, 0, 0, 0, n),
+        SourceCid::Of(c) => row_with(d, 1, c.hi, c.lo, n),
+    }
+}
+
+// The first n bytes from one place laid over another; the two places are apart.
+fn move_block(store: &mut [u8], from: usize, to: usize, n: usize)
+    requires { ⌜ (n ≤ 513) × (from + 513 ≤ length (now store)) × (to + 513 ≤ length (now store)) × Apart from to ⌝ }
+    ensures { λ r. ⌜ now (store .exit) ≡ pasted (now (store .entry)) to (take n (drop from (now (store .entry)))) ⌝ }
+{
+    let mut k: usize = 0;
+    while k < n {
+        store[to + k] = store[from + k];
+        k += 1;
+    }
+}
+
+// How many rows at the front are of universes below this one.
+fn place_of(rows: &[[u64; 9]; 64], n: usize, universe: u16) -> usize
+    requires { ⌜ (n ≤ 64) × (length (now rows) ≡ 64) ⌝ }
+    ensures { λ r. ⌜ r ≡ prefix (λ row. below universe (headOf row)) (take n (now (rows .entry))) ⌝ }
+{
+    let mut i: usize = 0;
+    while i < n {
+        let row = rows[i];
+        let d = head_of(row);
+        if d.universe < universe {
+            i += 1;
+        } else {
+            return i;
+        }
+    }
+    i
+}
+
+// An entry put at place i: its row and its block.
+fn write_entry(rows: &mut [[u64; 9]; 64], store: &mut [u8], i: usize, d: DmxData, values: &[u8])
+    requires { ⌜ Room (now rows) (now store) × (i < 64) × (length (now values) ≤ 513) ⌝ }
+    ensures { λ r. ⌜ Changed (now (rows .entry)) (now (store .entry)) (now (rows .exit)) (now (store .exit)) (set (entries (now (rows .entry)) (now (store .entry))) i (dmx d (now (values .entry)))) ⌝ }
+{
+    let row = row_of(d, values.len());
+    rows[i] = row;
+    merge::copy_values(values, store, i * 513);
+}
+
+// The entry at one place put at another, too.
+fn move_entry(rows: &mut [[u64; 9]; 64], store: &mut [u8], from: usize, to: usize)
+    requires { ⌜ Room (now rows) (now store) × (from < 64) × (to < 64) × (from ≢ to) ⌝ }
+    ensures { λ r. ⌜ Changed (now (rows .entry)) (now (store .entry)) (now (rows .exit)) (now (store .exit)) (set (entries (now (rows .entry)) (now (store .entry))) to (getD (entries (now (rows .entry)) (now (store .entry))) from nothing)) ⌝ }
+{
+    let row = rows[from];
+    let n = count_of(row);
+    rows[to] = row;
+    move_block(store, from * 513, to * 513, n);
 }
