@@ -3,3 +3,4 @@ pub mod Records
 pub mod Laws
 pub mod Entries
 pub mod Posts
+pub mod Passes

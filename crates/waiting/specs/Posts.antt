@@ -15,6 +15,8 @@ use Rattle.rules.specs.Age.{expired}
 use Rattle.merge.specs.declared.DmxData.{DmxData}
 use Rattle.merge.specs.Merge.{Dmx}
 use Rattle.merge.specs.Views.{dmx}
+use Rattle.waiting.specs.declared.Retain.{Retain}
+use Rattle.waiting.specs.declared.Retain.the-variants.{Fresh, OtherThan}
 use Rattle.waiting.specs.Entries.{headOf, countOf, entries, nothing, Room, Lent, lent-put, put-entry, moved-entry, length-block}
 
 -- a row made of a header and a count
@@ -26,6 +28,16 @@ pub record Rowed (d : DmxData) (n : ℕ) (row : List ℕ) : Type 0 where
 pub record Changed (rows : List (List ℕ)) (store : List ℕ) (rows′ : List (List ℕ)) (store′ : List ℕ) (ds : List Dmx) : Type 0 where
   pub lent : Lent rows store rows′ store′
   pub becomes : entries rows′ store′ ≡ ds
+
+-- and what the first n of them become
+pub record Held (rows : List (List ℕ)) (store : List ℕ) (rows′ : List (List ℕ)) (store′ : List ℕ) (n : ℕ) (ds : List Dmx) : Type 0 where
+  pub lends : Lent rows store rows′ store′
+  pub holds : take n (entries rows′ store′) ≡ ds
+
+-- what a pass keeps
+abbrev pub retained : Retain → DmxData → Bool
+retained (Fresh now) d = not (expired now (d .«recv_timestamp»))
+retained (OtherThan a) d = not (eqb (d .«sync_uni») a)
 
 -- the rows of universes below u
 abbrev pub below : ℕ → DmxData → Bool

@@ -2,15 +2,18 @@
 ghost use mathlib.Core.Path.{_≡_};
 ghost use mathlib.Core.Logic.{_≢_};
 ghost use mathlib.Core.List.{[]};
-ghost use Prim.Native.Nat.{_+_, _*_, _≤_, _<_};
+ghost use mathlib.Core.Bool.{not};
+ghost use Prim.Native.Nat.{_+_, _-_, _*_, _≤_, _<_};
 ghost use lib.ListN.{length, take, drop, getD, set};
-ghost use Rattle.table.specs.Place.{prefix};
+ghost use Rattle.table.specs.Place.{prefix, insertAt, removeAt};
+ghost use Rattle.table.specs.Table.{any, keep};
+ghost use Rattle.merge.specs.Merge.{Dmx};
 ghost use Rattle.table.specs.Parts.{pasted};
 ghost use Rattle.merge.specs.Views.{dmx};
 ghost use Rattle.waiting.specs.Entries.{headOf, countOf, ownerOf, rowOf, entryOf, entries, nothing, Room};
 ghost use Rattle.waiting.specs.Records.{bit};
 ghost use lib.Dec.{eqb};
-ghost use Rattle.waiting.specs.Posts.{Rowed, Changed, below, Apart};
+ghost use Rattle.waiting.specs.Posts.{Rowed, Changed, Held, below, Apart, retained};
 use merge::DmxData;
 use merge::SourceCid;
 use rules::Cid;
@@ -138,4 +141,105 @@ fn move_entry(rows: &mut [[u64; 9]; 64], store: &mut [u8], from: usize, to: usiz
     let n = count_of(row);
     rows[to] = row;
     move_block(store, from * 513, to * 513, n);
+}
+
+// Place i taken out of the first n entries: the later ones move down.
+fn remove_at(rows: &mut [[u64; 9]; 64], store: &mut [u8], n: usize, i: usize)
+    requires { ⌜ Room (now rows) (now store) × (i < n) × (n ≤ 64) ⌝ }
+    ensures { λ r. ⌜ Held (now (rows .entry)) (now (store .entry)) (now (rows .exit)) (now (store .exit)) (n - 1) (removeAt i (take n (entries (now (rows .entry)) (now (store .entry))))) ⌝ }
+{
+    let mut w = i;
+    while w + 1 < n {
+        move_entry(&mut *rows, &mut *store, w + 1, w);
+        w += 1;
+    }
+}
+
+// An entry put in before place i of the first n: the later ones move up, from the top.
+fn insert_at(
+    rows: &mut [[u64; 9]; 64],
+    store: &mut [u8],
+    n: usize,
+    i: usize,
+    d: DmxData,
+    values: &[u8],
+)
+    requires { ⌜ Room (now rows) (now store) × (i ≤ n) × (n < 64) × (length (now values) ≤ 513) ⌝ }
+    ensures { λ r. ⌜ Held (now (rows .entry)) (now (store .entry)) (now (rows .exit)) (now (store .exit)) (n + 1) (insertAt i (dmx d (now (values .entry))) (take n (entries (now (rows .entry)) (now (store .entry))))) ⌝ }
+{
+    let mut j = n;
+    while i < j {
+        move_entry(&mut *rows, &mut *store, j - 1, j);
+        j -= 1;
+    }
+    write_entry(&mut *rows, &mut *store, i, d, values);
+}
+
+// An entry that a pass keeps moves down over those it gave up, if there are any.
+fn keep_entry(rows: &mut [[u64; 9]; 64], store: &mut [u8], from: usize, to: usize)
+    requires { ⌜ Room (now rows) (now store) × (to ≤ from) × (from < 64) ⌝ }
+    ensures { λ r. ⌜ Changed (now (rows .entry)) (now (store .entry)) (now (rows .exit)) (now (store .exit)) (set (entries (now (rows .entry)) (now (store .entry))) to (getD (entries (now (rows .entry)) (now (store .entry))) from nothing)) ⌝ }
+{
+    if to < from {
+        move_entry(rows, store, from, to);
+    }
+}
+
+// Which entries a pass keeps: those not expired at a reading, or those of other addresses.
+enum Retain {
+    Fresh(u64),
+    OtherThan(u16),
+}
+
+fn is_retained(test: Retain, d: DmxData) -> bool
+    ensures { λ r. ⌜ r ≡ retained test d ⌝ }
+{
+    match test {
+        Retain::Fresh(now) => {
+            if rules::is_expired(now, d.recv_timestamp) {
+                return false;
+            }
+            true
+        }
+        Retain::OtherThan(address) => d.sync_uni != address,
+    }
+}
+
+// Is there an entry among the first n that the pass would not keep.
+fn any_dropped(rows: &[[u64; 9]; 64], n: usize, test: Retain) -> bool
+    requires { ⌜ (n ≤ 64) × (length (now rows) ≡ 64) ⌝ }
+    ensures { λ r. ⌜ r ≡ any (λ row. not (retained test (headOf row))) (take n (now (rows .entry))) ⌝ }
+{
+    let mut i: usize = 0;
+    while i < n {
+        let row = rows[i];
+        let d = head_of(row);
+        if is_retained(test, d) {
+            i += 1;
+        } else {
+            return true;
+        }
+    }
+    false
+}
+
+// The entries that pass the test, moved down over the others; how many they are.
+fn compact(rows: &mut [[u64; 9]; 64], store: &mut [u8], n: usize, test: Retain) -> usize
+    requires { ⌜ Room (now rows) (now store) × (n ≤ 64) ⌝ }
+    ensures { λ r. ⌜ (r ≤ n) × Held (now (rows .entry)) (now (store .entry)) (now (rows .exit)) (now (store .exit)) r (keep (λ (e : Dmx). retained test (e .head)) (take n (entries (now (rows .entry)) (now (store .entry))))) ⌝ }
+{
+    let mut kept: usize = 0;
+    let mut i: usize = 0;
+    while i < n {
+        let row = rows[i];
+        let d = head_of(row);
+        if is_retained(test, d) {
+            keep_entry(&mut *rows, &mut *store, i, kept);
+            kept += 1;
+            i += 1;
+        } else {
+            i += 1;
+        }
+    }
+    kept
 }
