@@ -3,3 +3,4 @@ pub mod Laws
 pub mod Views
 pub mod Returns
 pub mod Trials
+pub mod Answers

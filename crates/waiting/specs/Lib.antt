@@ -4,3 +4,4 @@ pub mod Laws
 pub mod Entries
 pub mod Posts
 pub mod Passes
+pub mod Joins

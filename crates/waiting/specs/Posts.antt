@@ -2,6 +2,7 @@
 -- Assumes nothing.
 use mathlib.Core.Path.{_≡_}
 use mathlib.Core.Bool.{Bool, not}
+use mathlib.Core.Option.{Option, none, some}
 use mathlib.Core.List.{List, []}
 use mathlib.Core.Logic.{_⊎_, inl, inr, _≢_}
 use Prim.Native.Nat.{ℕ, _+_, _*_, _≤_, _<_}
@@ -10,13 +11,17 @@ use lib.Dec.{ltb, eqb}
 use lib.ListN.{length, take, drop, getD, set}
 use borrow.Author.Tests.{ltb-true}
 use Rattle.table.specs.Order.{ℕ-order, tri}
+use Rattle.table.specs.Place.{prefix}
 use Rattle.table.specs.Parts.{pasted}
 use Rattle.rules.specs.Age.{expired}
 use Rattle.merge.specs.declared.DmxData.{DmxData}
 use Rattle.merge.specs.Merge.{Dmx}
 use Rattle.merge.specs.Views.{dmx}
+use Rattle.waiting.specs.declared.Found.{Found}
+use Rattle.waiting.specs.declared.Found.the-variants.{At, Before}
 use Rattle.waiting.specs.declared.Retain.{Retain}
 use Rattle.waiting.specs.declared.Retain.the-variants.{Fresh, OtherThan}
+use Rattle.waiting.specs.Waiting.{held}
 use Rattle.waiting.specs.Entries.{headOf, countOf, entries, nothing, Room, Lent, lent-put, put-entry, moved-entry, length-block}
 
 -- a row made of a header and a count
@@ -34,6 +39,15 @@ pub record Held (rows : List (List ℕ)) (store : List ℕ) (rows′ : List (Lis
   pub lends : Lent rows store rows′ store′
   pub holds : take n (entries rows′ store′) ≡ ds
 
+-- a merged packet stands at place i; a refused one changes nothing
+abbrev pub joinedAt : ℕ → List Dmx → Option Dmx → List Dmx
+joinedAt i ds none = ds
+joinedAt i ds (some d) = set ds i d
+
+pub record Joined (rows : List (List ℕ)) (store : List ℕ) (rows′ : List (List ℕ)) (store′ : List ℕ) (i : ℕ) (o : Option Dmx) (r : Bool) : Type 0 where
+  pub joins : r ≡ held o
+  pub changed : Changed rows store rows′ store′ (joinedAt i (entries rows store) o)
+
 -- what a pass keeps
 abbrev pub retained : Retain → DmxData → Bool
 retained (Fresh now) d = not (expired now (d .«recv_timestamp»))
@@ -42,6 +56,11 @@ retained (OtherThan a) d = not (eqb (d .«sync_uni») a)
 -- the rows of universes below u
 abbrev pub below : ℕ → DmxData → Bool
 below u d = ltb (d .universe) u
+
+-- where a universe was found, or where it belongs
+abbrev pub Sought : ℕ → ℕ → List (List ℕ) → Found → Type 0
+Sought u n rows (At i) = (i ≡ prefix (λ row. below u (headOf row)) (take n rows)) × (i < n) × (headOf (getD rows i []) .universe ≡ u)
+Sought u n rows (Before i) = (i ≡ prefix (λ row. below u (headOf row)) (take n rows)) × (i < n → headOf (getD rows i []) .universe ≢ u)
 
 -- two blocks that do not overlap
 abbrev pub Apart : ℕ → ℕ → Type 0

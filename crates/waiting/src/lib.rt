@@ -7,16 +7,20 @@ ghost use Prim.Native.Nat.{_+_, _-_, _*_, _≤_, _<_};
 ghost use lib.ListN.{length, take, drop, getD, set};
 ghost use Rattle.table.specs.Place.{prefix, insertAt, removeAt};
 ghost use Rattle.table.specs.Table.{any, keep};
-ghost use Rattle.merge.specs.Merge.{Dmx};
+ghost use Rattle.merge.specs.Merge.{Dmx, htp-merge, preferred};
 ghost use Rattle.table.specs.Parts.{pasted};
 ghost use Rattle.merge.specs.Views.{dmx};
 ghost use Rattle.waiting.specs.Entries.{headOf, countOf, ownerOf, rowOf, entryOf, entries, nothing, Room};
 ghost use Rattle.waiting.specs.Records.{bit};
 ghost use lib.Dec.{eqb};
-ghost use Rattle.waiting.specs.Posts.{Rowed, Changed, Held, below, Apart, retained};
+ghost use Rattle.waiting.specs.Waiting.{merged};
+ghost use Rattle.waiting.specs.Posts.{Rowed, Changed, Held, Joined, below, Apart, retained, Sought};
+use merge::Choice;
 use merge::DmxData;
+use merge::HtpAnswer;
 use merge::SourceCid;
 use rules::Cid;
+use settings::MergeChoice;
 
 // What storing answers.
 pub enum StoreAnswer {
@@ -242,4 +246,96 @@ fn compact(rows: &mut [[u64; 9]; 64], store: &mut [u8], n: usize, test: Retain) 
         }
     }
     kept
+}
+
+// Where a universe stands among the first n entries: at a place, or before one.
+enum Found {
+    At(usize),
+    Before(usize),
+}
+
+fn find_universe(rows: &[[u64; 9]; 64], n: usize, universe: u16) -> Found
+    requires { ⌜ (n ≤ 64) × (length (now rows) ≡ 64) ⌝ }
+    ensures { λ r. ⌜ Sought universe n (now (rows .entry)) r ⌝ }
+{
+    let i = place_of(rows, n, universe);
+    if i < n {
+        let row = rows[i];
+        let d = head_of(row);
+        if d.universe == universe {
+            return Found::At(i);
+        }
+        return Found::Before(i);
+    }
+    Found::Before(i)
+}
+
+// The packet joins the entry at place i by priority: that entry stays, or the packet takes its place.
+fn choose_entry(
+    rows: &mut [[u64; 9]; 64],
+    store: &mut [u8],
+    i: usize,
+    packet: DmxData,
+    values: &[u8],
+)
+    requires { ⌜ Room (now rows) (now store) × (i < 64) × (length (now values) ≤ 513) ⌝ }
+    ensures { λ r. ⌜ Changed (now (rows .entry)) (now (store .entry)) (now (rows .exit)) (now (store .exit)) (set (entries (now (rows .entry)) (now (store .entry))) i (preferred (getD (entries (now (rows .entry)) (now (store .entry))) i nothing) (dmx packet (now (values .entry))))) ⌝ }
+{
+    let row = rows[i];
+    let e = head_of(row);
+    let a = i * 513;
+    let b = a + count_of(row);
+    match merge::discard_lowest_priority_then_previous(e, &store[a..b], packet, values) {
+        Choice::Older => {}
+        Choice::Newer => write_entry(rows, store, i, packet, values),
+        Choice::TooLong(_) => {}
+    }
+}
+
+// The packet joins the entry at place i by highest value; a refused merge changes nothing and answers false.
+fn blend_entry(
+    rows: &mut [[u64; 9]; 64],
+    store: &mut [u8],
+    i: usize,
+    packet: DmxData,
+    values: &[u8],
+) -> bool
+    requires { ⌜ Room (now rows) (now store) × (i < 64) × (length (now values) ≤ 513) ⌝ }
+    ensures { λ r. ⌜ Joined (now (rows .entry)) (now (store .entry)) (now (rows .exit)) (now (store .exit)) i (htp-merge (getD (entries (now (rows .entry)) (now (store .entry))) i nothing) (dmx packet (now (values .entry)))) r ⌝ }
+{
+    let row = rows[i];
+    let e = head_of(row);
+    let a = i * 513;
+    let b = a + count_of(row);
+    let mut block = [0u8; 513];
+    match merge::htp_dmx_merge(e, &store[a..b], packet, values, &mut block) {
+        HtpAnswer::Merged(d, m) => {
+            write_entry(rows, store, i, d, &block[..m]);
+            true
+        }
+        HtpAnswer::TooLong(_) => false,
+        HtpAnswer::Refused => false,
+        HtpAnswer::OutputShort(_) => false,
+    }
+}
+
+// The packet joins the entry at place i by the merge choice.
+fn join_entry(
+    rows: &mut [[u64; 9]; 64],
+    store: &mut [u8],
+    i: usize,
+    choice: MergeChoice,
+    packet: DmxData,
+    values: &[u8],
+) -> bool
+    requires { ⌜ Room (now rows) (now store) × (i < 64) × (length (now values) ≤ 513) ⌝ }
+    ensures { λ r. ⌜ Joined (now (rows .entry)) (now (store .entry)) (now (rows .exit)) (now (store .exit)) i (merged choice (getD (entries (now (rows .entry)) (now (store .entry))) i nothing) (dmx packet (now (values .entry)))) r ⌝ }
+{
+    match choice {
+        MergeChoice::DiscardLowestPriorityThenPrevious => {
+            choose_entry(rows, store, i, packet, values);
+            true
+        }
+        MergeChoice::HtpDmxMerge => blend_entry(rows, store, i, packet, values),
+    }
 }
