@@ -5,3 +5,4 @@ pub mod Entries
 pub mod Posts
 pub mod Passes
 pub mod Joins
+pub mod Written

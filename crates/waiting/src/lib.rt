@@ -1,7 +1,7 @@
 // Document 01, 'Waiting data' and 'Released bytes': data that waits for the synchronisation of its address.
 ghost use mathlib.Core.Path.{_≡_};
 ghost use mathlib.Core.Logic.{_≢_};
-ghost use mathlib.Core.List.{[]};
+ghost use mathlib.Core.List.{[], _++_};
 ghost use mathlib.Core.Bool.{not};
 ghost use Prim.Native.Nat.{_+_, _-_, _*_, _≤_, _<_};
 ghost use lib.ListN.{length, take, drop, getD, set};
@@ -12,8 +12,9 @@ ghost use Rattle.table.specs.Parts.{pasted};
 ghost use Rattle.merge.specs.Views.{dmx};
 ghost use Rattle.waiting.specs.Entries.{headOf, countOf, ownerOf, rowOf, entryOf, entries, nothing, Room};
 ghost use Rattle.waiting.specs.Records.{bit};
+ghost use Rattle.waiting.specs.Written.{frontBytes, backBytes, due, Laid, Writing};
 ghost use lib.Dec.{eqb};
-ghost use Rattle.waiting.specs.Waiting.{merged};
+ghost use Rattle.waiting.specs.Waiting.{merged, released};
 ghost use Rattle.waiting.specs.Posts.{Rowed, Changed, Held, Joined, below, Apart, retained, Sought};
 use merge::Choice;
 use merge::DmxData;
@@ -338,4 +339,136 @@ fn join_entry(
         }
         MergeChoice::HtpDmxMerge => blend_entry(rows, store, i, packet, values),
     }
+}
+
+// ── released bytes ──
+fn byte_of(on: bool) -> u8
+    ensures { λ r. ⌜ r ≡ bit on ⌝ }
+{
+    if on { 1 } else { 0 }
+}
+
+// Mark, universe, address, priority, preview, CID present.
+fn front_bytes(d: DmxData, present: u8) -> [u8; 9]
+    ensures { λ r. ⌜ r ≡ frontBytes d present ⌝ }
+{
+    let preview = byte_of(d.preview);
+    [
+        0x55,
+        0x44,
+        (d.universe / 256 % 256) as u8,
+        (d.universe % 256) as u8,
+        (d.sync_uni / 256 % 256) as u8,
+        (d.sync_uni % 256) as u8,
+        d.priority,
+        preview,
+        present,
+    ]
+}
+
+// Reading and value count.
+fn back_bytes(reading: u64, count: usize) -> [u8; 10]
+    ensures { λ r. ⌜ r ≡ backBytes reading count ⌝ }
+{
+    [
+        (reading / 0x100_0000_0000_0000 % 256) as u8,
+        (reading / 0x1_0000_0000_0000 % 256) as u8,
+        (reading / 0x100_0000_0000 % 256) as u8,
+        (reading / 0x1_0000_0000 % 256) as u8,
+        (reading / 0x100_0000 % 256) as u8,
+        (reading / 0x1_0000 % 256) as u8,
+        (reading / 0x100 % 256) as u8,
+        (reading % 256) as u8,
+        (count / 256 % 256) as u8,
+        (count % 256) as u8,
+    ]
+}
+
+// The parts of a record laid one after the other.
+fn write_parts(
+    out: &mut [u8],
+    at: usize,
+    front: [u8; 9],
+    cid: [u8; 16],
+    back: [u8; 10],
+    values: &[u8],
+) -> usize
+    requires { ⌜ at + 35 + length (now values) ≤ length (now out) ⌝ }
+    ensures { λ r. ⌜ (r ≡ at + 35 + length (now (values .entry))) × (now (out .exit) ≡ pasted (now (out .entry)) at (front ++ (cid ++ (back ++ now (values .entry))))) ⌝ }
+{
+    merge::copy_values(&front, &mut *out, at);
+    merge::copy_values(&cid, &mut *out, at + 9);
+    merge::copy_values(&back, &mut *out, at + 25);
+    merge::copy_values(values, &mut *out, at + 35);
+    at + 35 + values.len()
+}
+
+// One record of a release, laid over the output from a place on; the place after it.
+pub fn write_record(out: &mut [u8], at: usize, d: DmxData, values: &[u8]) -> usize
+    requires { ⌜ at + 35 + length (now values) ≤ length (now out) ⌝ }
+    ensures { λ r. ⌜ Laid d (now (values .entry)) (now (out .entry)) (now (out .exit)) at r ⌝ }
+{
+    let back = back_bytes(d.recv_timestamp, values.len());
+    let source = d.src_cid;
+    match source {
+        SourceCid::Merged => {
+            let front = front_bytes(d, 0);
+            write_parts(out, at, front, [0u8; 16], back, values)
+        }
+        SourceCid::Of(c) => {
+            let front = front_bytes(d, 1);
+            let cid = c.to_bytes();
+            write_parts(out, at, front, cid, back, values)
+        }
+    }
+}
+
+// Is it of the address, and not expired.
+fn is_due(d: DmxData, address: u16, reading: u64) -> bool
+    ensures { λ r. ⌜ r ≡ due reading address d ⌝ }
+{
+    if d.sync_uni != address {
+        return false;
+    }
+    if rules::is_expired(reading, d.recv_timestamp) {
+        return false;
+    }
+    true
+}
+
+// How much a release has written.
+struct Written {
+    records: usize,
+    bytes: usize,
+}
+
+// The records of an address's live data among the first n entries, laid over the output.
+fn write_release(
+    rows: &[[u64; 9]; 64],
+    store: &[u8],
+    n: usize,
+    address: u16,
+    reading: u64,
+    out: &mut [u8],
+) -> Written
+    requires { ⌜ Room (now rows) (now store) × (n ≤ 64) × (35072 ≤ length (now out)) ⌝ }
+    ensures { λ r. ⌜ Writing (released reading address (take n (entries (now (rows .entry)) (now (store .entry))))) (now (out .entry)) (now (out .exit)) (r .records) (r .bytes) ⌝ }
+{
+    let mut i: usize = 0;
+    let mut at: usize = 0;
+    let mut records: usize = 0;
+    while i < n {
+        let row = rows[i];
+        let d = head_of(row);
+        if is_due(d, address, reading) {
+            let a = i * 513;
+            let b = a + count_of(row);
+            at = write_record(&mut *out, at, d, &store[a..b]);
+            records += 1;
+            i += 1;
+        } else {
+            i += 1;
+        }
+    }
+    Written { records, bytes: at }
 }
