@@ -6,3 +6,4 @@ pub mod Posts
 pub mod Passes
 pub mod Joins
 pub mod Written
+pub mod Calls
