@@ -5,7 +5,7 @@ use mathlib.Core.Logic.{_≢_}
 use mathlib.Core.Bool.{Bool, true, false, not, cond}
 use mathlib.Core.Option.{Option, none, some}
 use mathlib.Core.List.{List, [], _∷_, _++_}
-use Prim.Native.Nat.{ℕ, zero, suc, _+_, _-_, _≤_, _<_}
+use Prim.Native.Nat.{ℕ, zero, suc, _+_, _-_, _*_, _≤_, _<_}
 use native.Mathlib.Omega.{arith}
 use native.Mathlib.Numerals.{add-one}
 use lib.Dec.{ltb, leb, eqb}
@@ -15,7 +15,7 @@ use borrow.Author.Tests.{le-leb, lt-leb, ltb-true, ltb-false}
 use Rattle.table.specs.Cases.{split, clash}
 use Rattle.table.specs.Order.{ℕ-order}
 use Rattle.table.specs.Table.{keep, any, store as put, remove, Ascending, keep-all, remove-absent}
-use Rattle.table.specs.Place.{prefix, place, insertAt, removeAt, absent-end, absent, present, store-insert, store-replace, remove-place}
+use Rattle.table.specs.Place.{prefix, prefix-le, place, insertAt, removeAt, absent-end, absent, present, store-insert, store-replace, remove-place}
 use Rattle.table.specs.Arrays.{replace}
 use Rattle.settings.specs.declared.MergeChoice.{MergeChoice}
 use Rattle.merge.specs.declared.DmxData.{DmxData}
@@ -28,15 +28,26 @@ use Rattle.waiting.specs.declared.Found.{Found}
 use Rattle.waiting.specs.declared.Found.the-variants.{At, Before}
 use Rattle.waiting.specs.Waiting.{universeOf, waitingFor, capacity, merged, stored, cleared, held, fresh, swept, left, of-address, Ordered}
 use Rattle.waiting.specs.Laws.{ordered-stored, ordered-cleared, ordered-swept, ordered-left, stored-merged, stored-refused, stored-full, stored-new, merged-universe}
-use Rattle.waiting.specs.Entries.{headOf, entries, nothing, waitingOf, Room, Kept, Lent, lent-none, lent-then, lent-room, kept-ordered, length-waiting, length-entries, prefix-entries, any-entries}
+use Rattle.waiting.specs.Entries.{headOf, countOf, entries, nothing, waitingOf, Room, Kept, Lent, lent-none, lent-then, lent-room, kept-ordered, length-waiting, length-entries, prefix-entries, any-entries}
 use Rattle.waiting.specs.Posts.{Changed, Held, Joined, joinedAt, below, Sought}
 use Rattle.waiting.specs.Passes.{head-at}
+use Rattle.waiting.specs.Joins.{read-entry}
 
 -- what every call yields: the waiting data ds, ready for the next call, in memory that is else unchanged
 pub record Yields (rows : List (List ℕ)) (store : List ℕ) (rows′ : List (List ℕ)) (store′ : List ℕ) (n : ℕ) (ds : List Dmx) : Type 0 where
   pub kept : Kept n rows′ store′
   pub lent : Lent rows store rows′ store′
   pub view : waitingOf n rows′ store′ ≡ ds
+
+-- `store_waiting_data` with the answer
+pub record StoredCall (n : ℕ) (rows : List (List ℕ)) (store : List ℕ) (choice : MergeChoice) (p : Dmx) (rows′ : List (List ℕ)) (store′ : List ℕ) (m : ℕ) (a : StoreAnswer) : Type 0 where
+  pub yields : Yields rows store rows′ store′ m (stored choice p (waitingOf n rows store) .0)
+  pub answers : a ≡ stored choice p (waitingOf n rows store) .1
+
+-- `check_waiting_data_timeouts`; where nothing is expired, nothing is written
+pub record SweptCall (n : ℕ) (rows : List (List ℕ)) (store : List ℕ) (now : ℕ) (rows′ : List (List ℕ)) (store′ : List ℕ) (m : ℕ) : Type 0 where
+  pub yields : Yields rows store rows′ store′ m (swept now (waitingOf n rows store))
+  pub quiet : any (λ (d : Dmx). not (fresh now d)) (waitingOf n rows store) ≡ false → (rows′ ≡ rows) × (store′ ≡ store)
 
 -- no data at all, whatever the memory holds
 abbrev pub Empty : ℕ → Type 0
@@ -109,13 +120,8 @@ module _ (n : ℕ) (rows : List (List ℕ)) (store : List ℕ) (k : Kept n rows 
 
   -- ── `store_waiting_data` ──
   module _ (choice : MergeChoice) (p : Dmx) (i : ℕ) (f : length (p .values) ≤ 513) where
-    -- the call's list and answer
-    pub record Storing (rows′ : List (List ℕ)) (store′ : List ℕ) (m : ℕ) (a : StoreAnswer) : Type 0 where
-      pub yields : Yields rows store rows′ store′ m (stored choice p ds .0)
-      pub answers : a ≡ stored choice p ds .1
-
     making : (rows′ : List (List ℕ)) (store′ : List ℕ) (m : ℕ) (a : StoreAnswer) (es : List Dmx) → stored choice p ds ≡ (es, a) → Lent rows store rows′ store′ → m ≤ 64
-        → waitingOf m rows′ store′ ≡ es → Storing rows′ store′ m a
+        → waitingOf m rows′ store′ ≡ es → StoredCall n rows store choice p rows′ store′ m a
     making rows′ store′ m a es e l h v =
         let o = ordered-stored choice p ds (kept-ordered k) f in
         let q : stored choice p ds .0 ≡ es = ap (λ (x : List Dmx × StoreAnswer). x .0) e in
@@ -124,13 +130,13 @@ module _ (n : ℕ) (rows : List (List ℕ)) (store : List ℕ) (k : Kept n rows 
           answers = sym (ap (λ (x : List Dmx × StoreAnswer). x .1) e);
         }
 
-    pub stores-full : Sought (universeOf p) n rows (Before i) → 64 ≤ n → Storing rows store n WaitingFull
+    pub stores-full : Sought (universeOf p) n rows (Before i) → 64 ≤ n → StoredCall n rows store choice p rows store n WaitingFull
     stores-full s h =
         let l = length-waiting k in
         making rows store n WaitingFull ds (stored-full choice p ds (found-none (universeOf p) i s) (le-leb capacity (length ds) (omega arith))) (lent-none rows store) (k .count-fits) refl
 
     pub stores-new : (rows′ : List (List ℕ)) (store′ : List ℕ) → Sought (universeOf p) n rows (Before i) → n < 64
-        → Held rows store rows′ store′ (n + 1) (insertAt i p (take n (entries rows store))) → Storing rows′ store′ (n + 1) Stored
+        → Held rows store rows′ store′ (n + 1) (insertAt i p (take n (entries rows store))) → StoredCall n rows store choice p rows′ store′ (n + 1) Stored
     stores-new rows′ store′ s h c =
         let l = length-waiting k in
         let e = store-insert ltb universeOf ℕ-order (universeOf p) ds p refl (found-none (universeOf p) i s) ∙ ap (λ (j : ℕ). insertAt j p ds) (placed (universeOf p) i (s .0)) in
@@ -141,10 +147,10 @@ module _ (n : ℕ) (rows : List (List ℕ)) (store : List ℕ) (k : Kept n rows 
       abbrev waits : Dmx
       waits = getD (entries rows store) i nothing
 
-      pub stores-merged : (rows′ : List (List ℕ)) (store′ : List ℕ) → Joined rows store rows′ store′ i (merged choice waits p) true → Storing rows′ store′ n Stored
+      pub stores-merged : (rows′ : List (List ℕ)) (store′ : List ℕ) → Joined rows store rows′ store′ i (merged choice waits p) true → StoredCall n rows store choice p rows′ store′ n Stored
       stores-merged rows′ store′ j = go (merged choice waits p) refl j
         where
-          go : (o : Option Dmx) → merged choice waits p ≡ o → Joined rows store rows′ store′ i o true → Storing rows′ store′ n Stored
+          go : (o : Option Dmx) → merged choice waits p ≡ o → Joined rows store rows′ store′ i o true → StoredCall n rows store choice p rows′ store′ n Stored
           go none m j = let z : true ≡ false = j .joins in let y : _≡_ {A = ℕ} 0 1 = cc in absurd (omega arith)
           go (some d) m j =
               let w = found-at (universeOf p) i s in
@@ -155,10 +161,10 @@ module _ (n : ℕ) (rows : List (List ℕ)) (store : List ℕ) (k : Kept n rows 
 
       -- refused: the entry is taken out of what the merge left as it was
       pub stores-refused : (rows₁ rows′ : List (List ℕ)) (store₁ store′ : List ℕ) → Joined rows store rows₁ store₁ i (merged choice waits p) false
-          → Held rows₁ store₁ rows′ store′ (n - 1) (removeAt i (take n (entries rows₁ store₁))) → Storing rows′ store′ (n - 1) MergeRefused
+          → Held rows₁ store₁ rows′ store′ (n - 1) (removeAt i (take n (entries rows₁ store₁))) → StoredCall n rows store choice p rows′ store′ (n - 1) MergeRefused
       stores-refused rows₁ rows′ store₁ store′ j c = go (merged choice waits p) refl j
         where
-          go : (o : Option Dmx) → merged choice waits p ≡ o → Joined rows store rows₁ store₁ i o false → Storing rows′ store′ (n - 1) MergeRefused
+          go : (o : Option Dmx) → merged choice waits p ≡ o → Joined rows store rows₁ store₁ i o false → StoredCall n rows store choice p rows′ store′ (n - 1) MergeRefused
           go (some d) m j = let z : false ≡ true = j .joins in let y : _≡_ {A = ℕ} 0 1 = cc in absurd (omega arith)
           go none m j =
               let b = k .count-fits in
@@ -166,13 +172,8 @@ module _ (n : ℕ) (rows : List (List ℕ)) (store : List ℕ) (k : Kept n rows 
               (c .holds ∙ ap (λ (x : List Dmx). removeAt i (take n x)) (j .changed .becomes) ∙ sym (taken (universeOf p) i s))
 
   -- ── `check_waiting_data_timeouts` ──
-  -- and where nothing is expired, nothing is written
-  pub record Sweeping (now : ℕ) (rows′ : List (List ℕ)) (store′ : List ℕ) (m : ℕ) : Type 0 where
-    pub yields : Yields rows store rows′ store′ m (swept now ds)
-    pub quiet : any (λ (d : Dmx). not (fresh now d)) ds ≡ false → (rows′ ≡ rows) × (store′ ≡ store)
-
   pub sweeps : (now : ℕ) (rows′ : List (List ℕ)) (store′ : List ℕ) (m : ℕ) → any (λ row. not (not (expired now (headOf row .«recv_timestamp»)))) (take n rows) ≡ true → m ≤ n
-      → Held rows store rows′ store′ m (keep (fresh now) (take n (entries rows store))) → Sweeping now rows′ store′ m
+      → Held rows store rows′ store′ m (keep (fresh now) (take n (entries rows store))) → SweptCall n rows store now rows′ store′ m
   sweeps now rows′ store′ m e h c =
       let b = k .count-fits in
       record {
@@ -180,7 +181,7 @@ module _ (n : ℕ) (rows : List (List ℕ)) (store : List ℕ) (k : Kept n rows 
         quiet = λ q. clash (sym (any-entries (λ (d : DmxData). not (not (expired now (d .«recv_timestamp»)))) n rows store) ∙ e) q;
       }
 
-  pub sweeps-none : (now : ℕ) → any (λ row. not (not (expired now (headOf row .«recv_timestamp»)))) (take n rows) ≡ false → Sweeping now rows store n
+  pub sweeps-none : (now : ℕ) → any (λ row. not (not (expired now (headOf row .«recv_timestamp»)))) (take n rows) ≡ false → SweptCall n rows store now rows store n
   sweeps-none now e =
       let q = sym (any-entries (λ (d : DmxData). not (not (expired now (d .«recv_timestamp»)))) n rows store) ∙ e in
       record {
@@ -199,3 +200,19 @@ module _ (n : ℕ) (rows : List (List ℕ)) (store : List ℕ) (k : Kept n rows 
   leaves a rows′ store′ m h c =
       let b = k .count-fits in
       yield n m rows rows′ store store′ (keep (λ (d : Dmx). not (of-address a d)) ds) k (c .lends) (omega arith) (c .holds) (unfold left in ordered-left a ds (kept-ordered k) .ascends)
+
+-- a place to insert at is within the count
+pub before-within : (u n i : ℕ) (rows : List (List ℕ)) → Sought u n rows (Before i) → i ≤ n
+before-within u n i rows s = omega (arith, s .0, prefix-le (λ row. below u (headOf row)) (take n rows), length-take n rows)
+
+-- ── the read-outs ──
+pub data-at : (n i : ℕ) (rows : List (List ℕ)) (store : List ℕ) (d : DmxData) → i < n → n ≤ 64 → length rows ≡ 64 → d ≡ headOf (getD rows i [])
+    → d ≡ getD (waitingOf n rows store) i nothing .head
+data-at n i rows store d h b l e =
+    e ∙ sym (ap (λ (x : Dmx). x .head) (getD-take n (entries rows store) i nothing h) ∙ head-at rows store i (omega arith))
+
+pub values-at : (n i m : ℕ) (rows : List (List ℕ)) (store : List ℕ) → Kept n rows store → i < n → m ≡ countOf (getD rows i [])
+    → take (i * 513 + m - i * 513) (drop (i * 513) store) ≡ getD (waitingOf n rows store) i nothing .values
+values-at n i m rows store k h e =
+    let b = k .count-fits in
+    ap (λ (x : Dmx). x .values) (read-entry rows store i (k .room) (omega arith) (headOf (getD rows i [])) m refl e ∙ sym (getD-take n (entries rows store) i nothing h))

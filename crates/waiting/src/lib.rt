@@ -1,20 +1,21 @@
 // Document 01, 'Waiting data' and 'Released bytes': data that waits for the synchronisation of its address.
 ghost use mathlib.Core.Path.{_≡_};
 ghost use mathlib.Core.Logic.{_≢_};
-ghost use mathlib.Core.List.{[], _++_};
+ghost use mathlib.Core.List.{List, [], _++_};
 ghost use mathlib.Core.Bool.{not};
-ghost use Prim.Native.Nat.{_+_, _-_, _*_, _≤_, _<_};
+ghost use Prim.Native.Nat.{ℕ, _+_, _-_, _*_, _≤_, _<_};
 ghost use lib.ListN.{length, take, drop, getD, set};
 ghost use Rattle.table.specs.Place.{prefix, insertAt, removeAt};
 ghost use Rattle.table.specs.Table.{any, keep};
 ghost use Rattle.merge.specs.Merge.{Dmx, htp-merge, preferred};
 ghost use Rattle.table.specs.Parts.{pasted};
 ghost use Rattle.merge.specs.Views.{dmx};
-ghost use Rattle.waiting.specs.Entries.{headOf, countOf, ownerOf, rowOf, entryOf, entries, nothing, Room};
+ghost use Rattle.waiting.specs.Entries.{headOf, countOf, ownerOf, rowOf, entryOf, entries, nothing, waitingOf, Room, Kept};
 ghost use Rattle.waiting.specs.Records.{bit};
 ghost use Rattle.waiting.specs.Written.{frontBytes, backBytes, due, Laid, Writing};
 ghost use lib.Dec.{eqb};
-ghost use Rattle.waiting.specs.Waiting.{merged, released};
+ghost use Rattle.waiting.specs.Waiting.{merged, cleared, released, left};
+ghost use Rattle.waiting.specs.Calls.{Empty, Yields, StoredCall, SweptCall};
 ghost use Rattle.waiting.specs.Posts.{Rowed, Changed, Held, Joined, below, Apart, retained, Sought};
 use merge::Choice;
 use merge::DmxData;
@@ -471,4 +472,173 @@ fn write_release(
         }
     }
     Written { records, bytes: at }
+}
+
+// ── the calls ──
+// How many universes wait; their rows and blocks are lent to every call.
+pub struct Waiting {
+    pub count: usize,
+}
+
+pub struct Stored {
+    pub waiting: Waiting,
+    pub answer: StoreAnswer,
+}
+
+pub struct Cleared {
+    pub waiting: Waiting,
+    pub held: bool,
+}
+
+// A release: what is left, and how many records and bytes the output has.
+pub struct Released {
+    pub waiting: Waiting,
+    pub records: usize,
+    pub bytes: usize,
+}
+
+impl Waiting {
+    pub fn new() -> Waiting
+        ensures { λ r. ⌜ Empty (r .count) ⌝ }
+    {
+        Waiting { count: 0 }
+    }
+
+    pub fn clear_all_waiting_data(self) -> Waiting
+        ensures { λ r. ⌜ Empty (r .count) ⌝ }
+    {
+        Waiting { count: 0 }
+    }
+
+    // Stored alone, or merged with what waits for its universe; a refused merge loses both.
+    pub fn store_waiting_data(
+        self,
+        rows: &mut [[u64; 9]; 64],
+        store: &mut [u8],
+        choice: MergeChoice,
+        packet: DmxData,
+        values: &[u8],
+    ) -> Stored
+        requires { ⌜ Kept (self .count) (now rows) (now store) × (length (now values) ≤ 513) ⌝ }
+        ensures { λ r. ⌜ StoredCall (self .count) (now (rows .entry)) (now (store .entry)) choice (dmx packet (now (values .entry))) (now (rows .exit)) (now (store .exit)) (r .waiting .count) (r .answer) ⌝ }
+    {
+        let n = self.count;
+        match find_universe(&*rows, n, packet.universe) {
+            Found::At(i) => {
+                if join_entry(&mut *rows, &mut *store, i, choice, packet, values) {
+                    return Stored {
+                        waiting: Waiting { count: n },
+                        answer: StoreAnswer::Stored,
+                    };
+                }
+                remove_at(&mut *rows, &mut *store, n, i);
+                Stored {
+                    waiting: Waiting { count: n - 1 },
+                    answer: StoreAnswer::MergeRefused,
+                }
+            }
+            Found::Before(i) => {
+                if 64 <= n {
+                    return Stored {
+                        waiting: Waiting { count: n },
+                        answer: StoreAnswer::WaitingFull,
+                    };
+                }
+                insert_at(&mut *rows, &mut *store, n, i, packet, values);
+                Stored {
+                    waiting: Waiting { count: n + 1 },
+                    answer: StoreAnswer::Stored,
+                }
+            }
+        }
+    }
+
+    // What waits for this universe goes; answers whether there was any.
+    pub fn clear_waiting_data(
+        self,
+        rows: &mut [[u64; 9]; 64],
+        store: &mut [u8],
+        universe: u16,
+    ) -> Cleared
+        requires { ⌜ Kept (self .count) (now rows) (now store) ⌝ }
+        ensures view { λ r. ⌜ Yields (now (rows .entry)) (now (store .entry)) (now (rows .exit)) (now (store .exit)) (r .waiting .count) (cleared universe (waitingOf (self .count) (now (rows .entry)) (now (store .entry))) .0) ⌝ }
+        ensures answer { λ r. ⌜ r .held ≡ cleared universe (waitingOf (self .count) (now (rows .entry)) (now (store .entry))) .1 ⌝ }
+    {
+        let n = self.count;
+        match find_universe(&*rows, n, universe) {
+            Found::At(i) => {
+                remove_at(&mut *rows, &mut *store, n, i);
+                Cleared {
+                    waiting: Waiting { count: n - 1 },
+                    held: true,
+                }
+            }
+            Found::Before(_) => Cleared {
+                waiting: Waiting { count: n },
+                held: false,
+            },
+        }
+    }
+
+    // The sweep by age. It looks first: where nothing is expired, nothing is written.
+    pub fn check_waiting_data_timeouts(
+        self,
+        rows: &mut [[u64; 9]; 64],
+        store: &mut [u8],
+        reading: u64,
+    ) -> Waiting
+        requires { ⌜ Kept (self .count) (now rows) (now store) ⌝ }
+        ensures { λ r. ⌜ SweptCall (self .count) (now (rows .entry)) (now (store .entry)) reading (now (rows .exit)) (now (store .exit)) (r .count) ⌝ }
+    {
+        let n = self.count;
+        let test = Retain::Fresh(reading);
+        if any_dropped(&*rows, n, test) {
+            let m = compact(&mut *rows, &mut *store, n, test);
+            return Waiting { count: m };
+        }
+        Waiting { count: n }
+    }
+
+    // All data of one address leaves, by ascending universe; what is not expired goes to the output as records.
+    pub fn rtrv_waiting_data(
+        self,
+        rows: &mut [[u64; 9]; 64],
+        store: &mut [u8],
+        address: u16,
+        reading: u64,
+        out: &mut [u8],
+    ) -> Released
+        requires { ⌜ Kept (self .count) (now rows) (now store) × (35072 ≤ length (now out)) ⌝ }
+        ensures view { λ r. ⌜ Yields (now (rows .entry)) (now (store .entry)) (now (rows .exit)) (now (store .exit)) (r .waiting .count) (left address (waitingOf (self .count) (now (rows .entry)) (now (store .entry)))) ⌝ }
+        ensures output { λ r. ⌜ Writing (released reading address (waitingOf (self .count) (now (rows .entry)) (now (store .entry)))) (now (out .entry)) (now (out .exit)) (r .records) (r .bytes) ⌝ }
+    {
+        let n = self.count;
+        let w = write_release(&*rows, &*store, n, address, reading, &mut *out);
+        let m = compact(&mut *rows, &mut *store, n, Retain::OtherThan(address));
+        Released {
+            waiting: Waiting { count: m },
+            records: w.records,
+            bytes: w.bytes,
+        }
+    }
+
+    // For a dump: the header of the i-th universe that waits.
+    pub fn waiting_data(self, rows: &[[u64; 9]; 64], i: usize) -> DmxData
+        requires { ⌜ (i < self .count) × (self .count ≤ 64) × (length (now rows) ≡ 64) ⌝ }
+        ensures { λ r. ⌜ ((store : List ℕ) → r ≡ getD (waitingOf (self .count) (now (rows .entry)) store) i nothing .head) ⌝ }
+    {
+        let row = rows[i];
+        head_of(row)
+    }
+
+    // And its values, where they lie.
+    pub fn waiting_values<'a>(self, rows: &[[u64; 9]; 64], store: &'a [u8], i: usize) -> &'a [u8]
+        requires { ⌜ Kept (self .count) (now rows) (now store) × (i < self .count) ⌝ }
+        ensures { λ r. ⌜ now r ≡ getD (waitingOf (self .count) (now (rows .entry)) (now (store .entry))) i nothing .values ⌝ }
+    {
+        let row = rows[i];
+        let a = i * 513;
+        let b = a + count_of(row);
+        &store[a..b]
+    }
 }
