@@ -1,7 +1,7 @@
 -- The universe is at its place, and the packet joins it or both are lost; or it is not there, and the packet goes in if there is room.
 -- Assumes nothing.
-use mathlib.Core.Path.{_≡_, sym, _∙_, subst}
-use mathlib.Core.Bool.{Bool, true, false}
+use mathlib.Core.Path.{subst}
+use mathlib.Core.Bool.{Bool}
 use native.Mathlib.Omega.{arith}
 use lib.ListN.{getD}
 use Rattle.merge.specs.Merge.{Dmx}
