@@ -63,7 +63,7 @@ pub fn copy_values(values: &[u8], out: &mut [u8], at: usize)
 fn larger(a: u8, b: u8) -> u8
     ensures { λ r. ⌜ r ≡ max a b ⌝ }
 {
-    if a < b { b } else { a }
+    if b < a { a } else { b }
 }
 
 fn longer(a: usize, b: usize) -> usize
