@@ -2,6 +2,8 @@
 ghost use mathlib.Core.Path.{_≡_};
 ghost use Rattle.settings.specs.Settings.{fresh, withPreview, withDiscovery, withTermination, withTimeout, withMerge, withoutLimit, limited};
 
+pub mod lent;
+
 // How a packet joins the data that waits for its universe.
 pub enum MergeChoice {
     DiscardLowestPriorityThenPrevious,
