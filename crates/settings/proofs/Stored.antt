@@ -1,4 +1,5 @@
--- A setter over a lent record: `*s = (*s).f(x)` meets the contract that what lies behind s at exit is F x of what lay there at entry, where f by value answers F x of its record. The walk of its MIR is the same for every f and F, and for every type of x that has one machine value.
+-- A setter over a lent record: `*s = (*s).f(x)` leaves F x of what lay behind s, where f by value answers F x of its record. One walk of the MIR serves every f and F, and every type of x that has one machine value.
+-- The walk: the borrow is opened, the record is read whole, f is called, what it answers is stored whole, and the borrow is closed.
 -- Assumes nothing.
 use mathlib.Core.Path.{_≡_, refl}
 use Prim.Native.Nat.{ℕ}
@@ -42,7 +43,7 @@ use denote.Triple.Clauses.{Ended, Clauses, closing, ensured, lasts}
 use Rattle.settings.specs.declared.Settings.{Settings}
 use Rattle.settings.proofs.Settings as S
 use Rattle.settings.proofs.Settings.Laws as S′
-use Rattle.settings.proofs.MergeChoice as MergeChoice
+use Rattle.settings.proofs.MergeChoice
 use Rattle.settings.proofs.MergeChoice.Laws as MergeChoice′
 
 -- a type of one machine value, of which a contract learns nothing at exit
@@ -61,7 +62,7 @@ mach s = LL.val S.the-type S′.the-laws s
 pub typed : {M : Type 1} (𝓤 : URA M) (H : Heap 𝓤) (A : Atoms 𝓤) → Given 𝓤 H A → (s : Settings) (v : Val) → Is S.the-row s (v ∷ []) → T (hasTy S′.mir v) × WT v
 typed 𝓤 H A W s v is = LL.lawful S.the-type S′.the-laws 𝓤 H A W .typed s (v ∷ []) is .0
 
-module _ (R : RattleType) (P : Single R) (k : Name) (F : R .Denot → Settings → Settings) where
+module _ {R : RattleType} (P : Single R) (k : Name) (F : R .Denot → Settings → Settings) where
   -- `f(self, x: R) -> Settings`, which answers F x of its record
   abbrev by-value : Signature
   by-value = record { lifetimes = 0; outlives = []; params = plain (λ _. S.the-row) ∷ plain (λ _. R) ∷ []; result = plain (λ _. S.the-row) }
@@ -76,7 +77,8 @@ module _ (R : RattleType) (P : Single R) (k : Name) (F : R .Denot → Settings �
   abbrev lent-ended : Ended
   lent-ended = record { signature = lent; kept = (yes, (yes, tt)) }
 
-  abbrev pub function : Fn
+  -- the MIR of `*s = (*s).f(x)`, f being called by the name k
+  abbrev function : Fn
   function = record {
     lifetimes = 1;
     outlives = [];
@@ -95,7 +97,7 @@ module _ (R : RattleType) (P : Single R) (k : Name) (F : R .Denot → Settings �
     abbrev lent-clauses : Clauses 𝓤 lent-ended
     lent-clauses κs a = record { ghost = Unit {0}; requires = λ g. emp 𝓤; ensures = λ g r e. fact 𝓤 (now (e .0) ≡ F (a .1 .0) (now (a .0))) }
 
-    abbrev pub Callee : Contract 𝓤
+    abbrev Callee : Contract 𝓤
     Callee = tripleOf 𝓤 H A by-value (closing 𝓤 H A by-value-ended by-value-clauses)
 
     said : (s : Settings) (x : R .Denot) (r : Settings) → ent 𝓤 (ensured 𝓤 H A by-value-ended by-value-clauses tt (s, (x, tt)) tt r) (fact 𝓤 (r ≡ F x s))
@@ -164,7 +166,7 @@ module _ (R : RattleType) (P : Single R) (k : Name) (F : R .Denot → Settings �
       meets : (𝓣 : Tables 𝓤 H) → Triple 𝓤 (𝓣 .C k) Callee → Meets 𝓤 H A lent (WpFn 𝓤 H (𝓣 .C) (𝓣 .Λ) function) (closing 𝓤 H A lent-ended lent-clauses)
       meets 𝓣 known = walk-meets 𝓤 H A lent-ended stayed W all-go lent-clauses (WpFn 𝓤 H (𝓣 .C) (𝓣 .Λ) function) (WpFn-mono 𝓤 H (W .laws) 𝓣 function) (walks (𝓣 .C) (𝓣 .Λ) (fmOf 𝓤 H (W .laws) 𝓣) known)
 
-  -- the setter named me, in an environment where k means the setter by value: its routine meets the contract where that of the setter by value does
+  -- the lent setter, named me, in an environment where k means f's routine g: it meets its contract where g meets f's
   module _ (me : Name) (env : Env) (g : Routine) (calls : env k ≡ g) {M : Type 1} (unfolded : (𝓤 : URA M) (H : Heap 𝓤) (𝓜 : Model 𝓤 H) (𝓡 : Running 𝓤 H 𝓜) → Closed 𝓤 H (tables 𝓤 H 𝓜 𝓡 env .C) (tables 𝓤 H 𝓜 𝓡 env .Λ) me function)
       (known : (𝓤 : URA M) (H : Heap 𝓤) (𝓜 : Model 𝓤 H) (𝓖 : GhostRules 𝓤 H) (𝓡 : Running 𝓤 H 𝓜) → Triple 𝓤 (𝓡 .run g) (Callee 𝓤 H (𝓖 .A))) where
     pub stored : (𝓤 : URA M) (H : Heap 𝓤) (𝓜 : Model 𝓤 H) (𝓖 : GhostRules 𝓤 H) (𝓡 : Running 𝓤 H 𝓜) → Meets 𝓤 H (𝓖 .A) lent (𝓡 .run (env me)) (closing 𝓤 H (𝓖 .A) lent-ended (lent-clauses 𝓤 H (𝓖 .A)))
@@ -177,8 +179,8 @@ module _ (R : RattleType) (P : Single R) (k : Name) (F : R .Denot → Settings �
 abbrev pub flag : Single bool
 flag = record { ty = tyBool; val = vbool; tells = bool-tells; typed = λ 𝓤 H A W x v is. bool-lawful 𝓤 H A W .typed x (v ∷ []) is .0; last = λ x. tt; silent = λ x w. refl }
 
-abbrev pub merge : Single MergeChoice.the-row
-merge = record {
+abbrev pub choice : Single MergeChoice.the-row
+choice = record {
   ty = MergeChoice′.mir;
   val = EL.val MergeChoice.the-type MergeChoice′.the-laws;
   tells = EL.tells MergeChoice.the-type MergeChoice′.the-laws;

@@ -45,7 +45,8 @@ pub fn clear_source_limit(s: &mut Settings)
 pub fn set_source_limit(s: &mut Settings, limit: u16) -> LimitAnswer
     ensures { λ r. ⌜ (now (s .exit) ≡ limited limit (now (s .entry)) .settings) × (r ≡ limited limit (now (s .entry)) .answer) ⌝ }
 {
-    let l = (*s).set_source_limit(limit);
+    let t = *s;
+    let l = t.set_source_limit(limit);
     *s = l.settings;
     l.answer
 }

@@ -1,6 +1,6 @@
--- `Stored.antt`, of the setter by value.
+-- The walk of `Stored.antt`, with the setter by value.
 -- Assumes nothing.
-use denote.Builtin.{bool}
+use mathlib.Core.Path.{refl}
 use Rattle.settings.specs.Settings.{withTimeout}
 use Rattle.settings.proofs.Stored.{flag, stored}
 use Rattle.settings.proofs.Settings.set_announce_timeout.Symbol as by-value
@@ -11,4 +11,4 @@ use Rattle.settings.proofs.lent.set_announce_timeout.Code as code
 
 pub set-announce-timeout-spec : {M : Type 1} → statement M
 unfolding code.routine
-set-announce-timeout-spec = stored bool flag by-value.name withTimeout name code.env by-value.routine code.calls-settings·Settings·set-announce-timeout code.unfolded met
+set-announce-timeout-spec = stored flag by-value.name withTimeout name code.env by-value.routine refl code.unfolded met

@@ -1,6 +1,6 @@
--- `Stored.antt`, of the setter by value.
+-- The walk of `Stored.antt`, with the setter by value.
 -- Assumes nothing.
-use denote.Builtin.{bool}
+use mathlib.Core.Path.{refl}
 use Rattle.settings.specs.Settings.{withPreview}
 use Rattle.settings.proofs.Stored.{flag, stored}
 use Rattle.settings.proofs.Settings.set_process_preview_data.Symbol as by-value
@@ -11,4 +11,4 @@ use Rattle.settings.proofs.lent.set_process_preview_data.Code as code
 
 pub set-process-preview-data-spec : {M : Type 1} → statement M
 unfolding code.routine
-set-process-preview-data-spec = stored bool flag by-value.name withPreview name code.env by-value.routine code.calls-settings·Settings·set-process-preview-data code.unfolded met
+set-process-preview-data-spec = stored flag by-value.name withPreview name code.env by-value.routine refl code.unfolded met
