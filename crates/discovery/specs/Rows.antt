@@ -5,14 +5,17 @@
 use mathlib.Core.Path.{_≡_, refl, sym, ap, _∙_}
 use mathlib.Core.Bool.{Bool, true, false, not, cond, _&&_}
 use mathlib.Core.List.{List, [], _∷_, _++_, map}
-use Prim.Native.Nat.{ℕ, zero, suc, _+_, _≤_, _<_}
+use Prim.Native.Nat.{ℕ, zero, suc, _+_, _-_, _*_, _≤_, _<_}
+use borrow.Author.Tests.{ltb-true, ltb-false}
 use native.Mathlib.Omega.{arith}
 use lib.Dec.{ltb, eqb}
 use lib.ListN.{length, take, drop, getD, set, length-append, length-take, length-drop}
-use lib.Seq.{take-take, drop-drop, take-add, take-append-le, take-all}
+use native.Mathlib.Numerals.{add-one}
+use lib.Seq.{take-take, take-suc, drop-drop, take-add, take-append-le, take-all}
 use Rattle.table.specs.Cases.{split}
 use Rattle.table.specs.Table.{keep, any}
-use Rattle.table.specs.Place.{prefix, insertAt, removeAt}
+use Rattle.table.specs.Place.{prefix, insertAt, removeAt, append-map}
+use Rattle.table.specs.Arrays.{next}
 use Rattle.rules.specs.declared.Cid.{Cid}
 use Rattle.discovery.specs.Discovery.{Page, cut-page}
 use Rattle.discovery.specs.Store.{Head, Leaf, owner, heads-of, held-by, renewed}
@@ -52,3 +55,73 @@ total (r ∷ rs) = amount r + total rs
 abbrev pub Few : List (List ℕ) → Type 0
 Few [] = Unit {0}
 Few (r ∷ rs) = (amount r ≤ 512) × Few rs
+
+-- the owner's partial page rows with a larger number
+abbrev pub larger : Cid → ℕ → List ℕ → Bool
+larger c n r = owned 0 c r && ltb n (getD r 3 0)
+
+-- the partial page rows of a CID hold the numbers from i on, n of them: `numbered` on rows
+unfoldable pub in-turn : Cid → ℕ → ℕ → List (List ℕ) → Bool
+in-turn c i zero rs = true
+in-turn c i (suc n) [] = false
+in-turn c i (suc n) (r ∷ rs) = cond (owned 0 c r) (eqb (getD r 3 0) i && in-turn c (i + 1) n rs) (in-turn c i (suc n) rs)
+
+-- a page row turned from partial to listed
+abbrev pub turned-row : Cid → List ℕ → List ℕ
+turned-row c r = cond (owned 0 c r) (set r 0 1) r
+
+-- ── rows, one more at a time ──
+total-append : (rs ss : List (List ℕ)) → total (rs ++ ss) ≡ total rs + total ss
+unfolding total
+total-append [] ss = omega arith
+total-append (r ∷ rs) ss = omega (arith, total-append rs ss)
+
+pub taken-more : {A : Type 0} (a : List A) (i : ℕ) (d : A) → i < length a → take (i + 1) a ≡ take i a ++ getD a i d ∷ []
+taken-more a i d h = rw add-one (take-suc a i d h)
+
+pub total-more : (a : List (List ℕ)) (i : ℕ) → i < length a → total (take (i + 1) a) ≡ total (take i a) + amount (getD a i [])
+unfolding total
+total-more a i h = rw (taken-more a i [] h) (omega (arith, total-append (take i a) (getD a i [] ∷ [])))
+
+pub few-at : (a : List (List ℕ)) (n i : ℕ) → Few (take n a) → i < n → i < length a → amount (getD a i []) ≤ 512
+few-at [] n i f h l = absurd (omega arith)
+few-at (r ∷ a) zero i f h l = absurd (omega arith)
+few-at (r ∷ a) (suc n) zero f h l = f .0
+few-at (r ∷ a) (suc n) (suc i) f h l = few-at a n i (f .1) (omega arith) (omega arith)
+
+pub total-few : (rs : List (List ℕ)) → Few rs → total rs ≤ 512 * length rs
+unfolding total
+total-few [] f = omega arith
+total-few (r ∷ rs) f = let k : amount r ≤ 512 = f .0 in omega (arith, total-few rs (f .1))
+
+pub map-more : {A B : Type 0} (f : A → B) (a : List A) (i : ℕ) (d : A) → i < length a → map f (take (i + 1) a) ≡ map f (take i a) ++ f (getD a i d) ∷ []
+map-more f a i d h = rw (taken-more a i d h) (append-map f (take i a) (getD a i d ∷ []))
+
+-- ── the next row looked at ──
+module _ (c : Cid) (a : List (List ℕ)) (n r : ℕ) (h : r < n) (l : r < length a) where
+  pub in-turn-skip : (k m : ℕ) → owned 0 c (getD a r []) ≡ false → in-turn c k m (drop (r + 1) (take n a)) ≡ in-turn c k m (drop r (take n a))
+  unfolding in-turn
+  in-turn-skip k zero e = refl
+  in-turn-skip k (suc m) e = rw (next a n r [] h l, e)
+
+  pub in-turn-row : (k m : ℕ) → owned 0 c (getD a r []) ≡ true → eqb (getD (getD a r []) 3 0) k ≡ true
+      → in-turn c (k + 1) m (drop (r + 1) (take n a)) ≡ in-turn c k (suc m) (drop r (take n a))
+  unfolding in-turn
+  in-turn-row k m e f = rw (next a n r [] h l, e, f)
+
+  pub in-turn-miss : (k m : ℕ) → owned 0 c (getD a r []) ≡ true → eqb (getD (getD a r []) 3 0) k ≡ false → in-turn c k (suc m) (drop r (take n a)) ≡ false
+  unfolding in-turn
+  in-turn-miss k m e f = rw (next a n r [] h l, e, f)
+
+-- all places are tested
+pub in-turn-done : (c : Cid) (k m : ℕ) (rs : List (List ℕ)) → m ≡ 0 → in-turn c k m rs ≡ true
+unfolding in-turn
+in-turn-done c k m rs e = rw e
+
+-- no row is left: they are, if none is to be tested
+pub in-turn-none : (c : Cid) (k last : ℕ) → in-turn c k (suc last - k) [] ≡ ltb last k
+unfolding in-turn
+in-turn-none c k last =
+    split (ltb last k)
+    (λ h. let e : suc last - k ≡ 0 = omega (arith, ltb-true last k h) in rw (e, h))
+    (λ h. let e : suc last - k ≡ suc (last - k) = omega (arith, ltb-false last k h) in rw (e, h))

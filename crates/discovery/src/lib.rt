@@ -1,5 +1,6 @@
 // Document 01, 'Discovery': sources that announce their universes in pages, partial and listed.
 mod pool;
+mod rows;
 
 // What a page's arrival answers.
 pub enum PageAnswer {

@@ -1,0 +1,189 @@
+// The rows of sources and pages: whose they are, and rows found, put in, taken out and turned.
+ghost use mathlib.Core.Path.{_≡_};
+ghost use mathlib.Core.Bool.{not, _&&_};
+ghost use mathlib.Core.List.{map};
+ghost use Prim.Native.Nat.{suc, _+_, _-_, _≤_, _<_};
+ghost use lib.Dec.{ltb};
+ghost use lib.ListN.{length, take, getD};
+ghost use Rattle.table.specs.Place.{prefix, insertAt, removeAt};
+ghost use Rattle.discovery.specs.Store.{owner};
+ghost use Rattle.discovery.specs.Rows.{owned, larger, total, Few, in-turn, turned-row};
+use rules::Cid;
+
+// The owner is this one.
+pub fn is_owner(mark: u64, cid: Cid, kind: u64, source: Cid) -> bool
+    ensures { λ r. ⌜ r ≡ owner kind source mark cid ⌝ }
+{
+    if mark != kind {
+        return false;
+    }
+    cid.is_same(source)
+}
+
+pub fn is_source_of(row: [u64; 6], mark: u64, cid: Cid) -> bool
+    ensures { λ r. ⌜ r ≡ owned mark cid row ⌝ }
+{
+    let own = Cid { hi: row[1], lo: row[2] };
+    is_owner(row[0], own, mark, cid)
+}
+
+pub fn is_page_of(row: [u64; 5], mark: u64, cid: Cid) -> bool
+    ensures { λ r. ⌜ r ≡ owned mark cid row ⌝ }
+{
+    let own = Cid { hi: row[1], lo: row[2] };
+    is_owner(row[0], own, mark, cid)
+}
+
+// Where the source stands; count if nowhere.
+pub fn find_source(sources: &[[u64; 6]; 64], count: usize, mark: u64, cid: Cid) -> usize
+    requires { ⌜ (count ≤ 64) × (length (now sources) ≡ 64) ⌝ }
+    ensures { λ r. ⌜ r ≡ prefix (λ row. not (owned mark cid row)) (take count (now (sources .entry))) ⌝ }
+{
+    let mut i = 0;
+    while i < count {
+        let row = sources[i];
+        if is_source_of(row, mark, cid) {
+            return i;
+        }
+        i += 1;
+    }
+    i
+}
+
+// The row at place at taken out of the first count.
+pub fn remove_source(sources: &mut [[u64; 6]; 64], count: usize, at: usize)
+    requires { ⌜ (count ≤ 64) × (at < count) × (length (now sources) ≡ 64) ⌝ }
+    ensures { λ r. ⌜ (length (now (sources .exit)) ≡ 64) × (take (count - 1) (now (sources .exit)) ≡ removeAt at (take count (now (sources .entry)))) ⌝ }
+{
+    let last = count - 1;
+    let mut to = at;
+    while to < last {
+        let row = sources[to + 1];
+        sources[to] = row;
+        to += 1;
+    }
+}
+
+pub fn remove_name(names: &mut [[u8; 63]; 64], count: usize, at: usize)
+    requires { ⌜ (count ≤ 64) × (at < count) × (length (now names) ≡ 64) ⌝ }
+    ensures { λ r. ⌜ (length (now (names .exit)) ≡ 64) × (take (count - 1) (now (names .exit)) ≡ removeAt at (take count (now (names .entry)))) ⌝ }
+{
+    let last = count - 1;
+    let mut to = at;
+    while to < last {
+        let row = names[to + 1];
+        names[to] = row;
+        to += 1;
+    }
+}
+
+// A name's bytes in a row of names.
+pub fn name_row(name: &[u8]) -> [u8; 63]
+    requires { ⌜ length (now name) ≤ 63 ⌝ }
+    ensures { λ r. ⌜ take (length (now (name .entry))) r ≡ now (name .entry) ⌝ }
+{
+    let mut row = [0; 63];
+    let mut i = 0;
+    while i < name.len() {
+        row[i] = name[i];
+        i += 1;
+    }
+    row
+}
+
+fn is_larger(row: [u64; 5], cid: Cid, number: u8) -> bool
+    ensures { λ r. ⌜ r ≡ larger cid number row ⌝ }
+{
+    if is_page_of(row, 0, cid) {
+        return (number as u64) < row[3];
+    }
+    false
+}
+
+// Where a partial source's new page goes: before its first page with a larger number.
+pub fn page_place(pages: &[[u64; 5]; 64], count: usize, cid: Cid, number: u8) -> usize
+    requires { ⌜ (count ≤ 64) × (length (now pages) ≡ 64) ⌝ }
+    ensures { λ r. ⌜ r ≡ prefix (λ row. not (larger cid number row)) (take count (now (pages .entry))) ⌝ }
+{
+    let mut i = 0;
+    while i < count {
+        let row = pages[i];
+        if is_larger(row, cid, number) {
+            return i;
+        }
+        i += 1;
+    }
+    i
+}
+
+// Where the universes of the page at place at begin.
+pub fn offset(pages: &[[u64; 5]; 64], at: usize) -> usize
+    requires { ⌜ (at ≤ 64) × (length (now pages) ≡ 64) × Few (take at (now pages)) ⌝ }
+    ensures { λ r. ⌜ r ≡ total (take at (now (pages .entry))) ⌝ }
+{
+    let mut sum: usize = 0;
+    let mut i = 0;
+    while i < at {
+        let row = pages[i];
+        sum += row[4] as usize;
+        i += 1;
+    }
+    sum
+}
+
+// One row more, before place at.
+pub fn insert_page(pages: &mut [[u64; 5]; 64], count: usize, at: usize, row: [u64; 5])
+    requires { ⌜ (count < 64) × (at ≤ count) × (length (now pages) ≡ 64) ⌝ }
+    ensures { λ r. ⌜ (length (now (pages .exit)) ≡ 64) × (take (count + 1) (now (pages .exit)) ≡ insertAt at row (take count (now (pages .entry)))) ⌝ }
+{
+    let mut carried = row;
+    let mut i = at;
+    while i < count {
+        let old = pages[i];
+        pages[i] = carried;
+        carried = old;
+        i += 1;
+    }
+    pages[count] = carried;
+}
+
+// A partial source's page rows become a listed one's.
+pub fn turn_pages(pages: &mut [[u64; 5]; 64], count: usize, cid: Cid)
+    requires { ⌜ (count ≤ 64) × (length (now pages) ≡ 64) ⌝ }
+    ensures { λ r. ⌜ (length (now (pages .exit)) ≡ 64) × (take count (now (pages .exit)) ≡ map (turned-row cid) (take count (now (pages .entry)))) ⌝ }
+{
+    let mut i = 0;
+    while i < count {
+        let mut row = pages[i];
+        if is_page_of(row, 0, cid) {
+            row[0] = 1;
+            pages[i] = row;
+            i += 1;
+        } else {
+            i += 1;
+        }
+    }
+}
+
+// Places 0 to last page hold exactly those page numbers.
+pub fn has_all_pages(pages: &[[u64; 5]; 64], count: usize, cid: Cid, last_page: u64) -> bool
+    requires { ⌜ (count ≤ 64) × (length (now pages) ≡ 64) ⌝ }
+    ensures { λ r. ⌜ r ≡ in-turn cid 0 (suc «last_page») (take count (now (pages .entry))) ⌝ }
+{
+    let mut next: u64 = 0;
+    let mut i = 0;
+    while i < count {
+        if last_page < next {
+            return true;
+        }
+        let row = pages[i];
+        i += 1;
+        if is_page_of(row, 0, cid) {
+            if row[3] != next {
+                return false;
+            }
+            next += 1;
+        }
+    }
+    last_page < next
+}
