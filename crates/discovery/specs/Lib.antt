@@ -5,5 +5,5 @@ pub mod Trials
 pub mod Store
 pub mod Leaves
 pub mod Moves
-pub mod Rows
 pub mod Pool
+pub mod Rows

@@ -25,6 +25,9 @@ module _ {A : Type 0} where
   pub further-read : (a b : List A) (r : ℕ) → drop r a ≡ drop r b → drop (r + 1) a ≡ drop (r + 1) b
   further-read a b r e = sym (drop-drop 1 r a) ∙ ap (drop 1) e ∙ drop-drop 1 r b
 
+  pub dropped-both : (r k : ℕ) (a b : List A) → drop r a ≡ drop r b → drop (r + k) a ≡ drop (r + k) b
+  dropped-both r k a b e = sym (drop-drop k r a) ∙ ap (drop k) e ∙ drop-drop k r b
+
   -- the element read is the one that stood there at first
   pub read-first : (a b : List A) (r : ℕ) (d : A) → drop r a ≡ drop r b → getD a r d ≡ getD b r d
   read-first a b r d e =

@@ -1,4 +1,5 @@
 // Document 01, 'Discovery': sources that announce their universes in pages, partial and listed.
+mod pages;
 mod pool;
 mod rows;
 

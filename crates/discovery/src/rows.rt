@@ -23,14 +23,20 @@ pub fn is_owner(mark: u64, cid: Cid, kind: u64, source: Cid) -> bool
 pub fn is_source_of(row: [u64; 6], mark: u64, cid: Cid) -> bool
     ensures { λ r. ⌜ r ≡ owned mark cid row ⌝ }
 {
-    let own = Cid { hi: row[1], lo: row[2] };
+    let own = Cid {
+        hi: row[1],
+        lo: row[2],
+    };
     is_owner(row[0], own, mark, cid)
 }
 
 pub fn is_page_of(row: [u64; 5], mark: u64, cid: Cid) -> bool
     ensures { λ r. ⌜ r ≡ owned mark cid row ⌝ }
 {
-    let own = Cid { hi: row[1], lo: row[2] };
+    let own = Cid {
+        hi: row[1],
+        lo: row[2],
+    };
     is_owner(row[0], own, mark, cid)
 }
 
@@ -154,10 +160,10 @@ pub fn turn_pages(pages: &mut [[u64; 5]; 64], count: usize, cid: Cid)
 {
     let mut i = 0;
     while i < count {
-        let mut row = pages[i];
+        let row = pages[i];
         if is_page_of(row, 0, cid) {
-            row[0] = 1;
-            pages[i] = row;
+            let turned = [1, row[1], row[2], row[3], row[4]];
+            pages[i] = turned;
             i += 1;
         } else {
             i += 1;

@@ -75,16 +75,17 @@ loop-again c =
     let g : v .to + w .kept + 1 ≡ v .to + (w .kept + 1) = omega arith in
     let j : v .from + w .i + 1 ≡ v .from + (w .i + 1) = omega arith in
     let q = pushed (w .universes) (take (v .to) u ++ keep p (take (w .i) (drop (v .from) u))) (v .to + w .kept) x (omega arith) (w .inv .3) in
-    let r = further (w .universes) u (v .to + w .kept) (v .from + w .i) x (omega arith) (w .inv .4) in
-    (omega arith,
-    simp length-set (w .inv .1),
-    omega (arith, ap length m, length-append (keep p (take (w .i) (drop (v .from) u))) (getD u (v .from + w .i) 0 ∷ []), w .inv .2),
-    (rw g at q)
-    ∙ append-assoc (take (v .to) u) (keep p (take (w .i) (drop (v .from) u))) (x ∷ [])
-    ∙ ap (λ (y : ℕ). take (v .to) u ++ (keep p (take (w .i) (drop (v .from) u)) ++ y ∷ [])) e
-    ∙ ap (λ (k : List ℕ). take (v .to) u ++ k) (sym m),
-    (rw j at r),
-    omega arith)
+    let r = further (w .universes) u (v .to + w .kept) (v .from + w .i) x (omega arith) (w .inv .4) in (
+      omega arith,
+      simp length-set (w .inv .1),
+      omega (arith, ap length m, length-append (keep p (take (w .i) (drop (v .from) u))) (getD u (v .from + w .i) 0 ∷ []), w .inv .2),
+      (rw g at q)
+          ∙ append-assoc (take (v .to) u) (keep p (take (w .i) (drop (v .from) u))) (x ∷ [])
+          ∙ ap (λ (y : ℕ). take (v .to) u ++ (keep p (take (w .i) (drop (v .from) u)) ++ y ∷ [])) e
+          ∙ ap (λ (k : List ℕ). take (v .to) u ++ k) (sym m),
+      (rw j at r),
+      omega arith,
+    )
 
 loop-less-2 : tie.Need-loop-less-2 Inv-loop μ-loop
 loop-less-2 c = search needs
@@ -101,13 +102,14 @@ loop-again-2 c =
     let f : p (getD u (v .from + w .i) 0) ≡ false = rw (← e) (simp (eq-eqb x (v .universe) (c .if1 .left))) in
     let m : keep p (take (w .i + 1) (drop (v .from) u)) ≡ keep p (take (w .i) (drop (v .from) u)) = kept-passed p u (v .from) (w .i) 0 l f in
     let j : v .from + w .i + 1 ≡ v .from + (w .i + 1) = omega arith in
-    let r = further-read (w .universes) u (v .from + w .i) (w .inv .4) in
-    (omega arith,
-    w .inv .1,
-    w .inv .2 ∙ ap length (sym m),
-    w .inv .3 ∙ ap (λ (k : List ℕ). take (v .to) u ++ k) (sym m),
-    (rw j at r),
-    omega arith)
+    let r = further-read (w .universes) u (v .from + w .i) (w .inv .4) in (
+      omega arith,
+      w .inv .1,
+      w .inv .2 ∙ ap length (sym m),
+      w .inv .3 ∙ ap (λ (k : List ℕ). take (v .to) u ++ k) (sym m),
+      (rw j at r),
+      omega arith,
+    )
 
 same-length : tie.Need-same-length Inv-loop μ-loop
 same-length c = search needs

@@ -66,14 +66,15 @@ loop-again c =
     let f : v .from + w .i + 1 ≡ v .from + (w .i + 1) = omega arith in
     let p = pushed (w .universes) (take (v .to) u ++ take (w .i) (drop (v .from) u)) (v .to + w .i) (getD (w .universes) (v .from + w .i) 0) (omega arith) (w .inv .2) in
     let q = further (w .universes) u (v .to + w .i) (v .from + w .i) (getD (w .universes) (v .from + w .i) 0) (omega arith) (w .inv .3) in
-    let m = part-more u (v .from) (w .i) 0 (omega arith) in
-    (omega arith,
-    simp length-set (w .inv .1),
-    (rw e at p)
-    ∙ append-assoc (take (v .to) u) (take (w .i) (drop (v .from) u)) (getD (w .universes) (v .from + w .i) 0 ∷ [])
-    ∙ ap (λ (y : ℕ). take (v .to) u ++ (take (w .i) (drop (v .from) u) ++ y ∷ [])) x
-    ∙ ap (λ (l : List ℕ). take (v .to) u ++ l) (sym m),
-    (rw f at q))
+    let m = part-more u (v .from) (w .i) 0 (omega arith) in (
+      omega arith,
+      simp length-set (w .inv .1),
+      (rw e at p)
+          ∙ append-assoc (take (v .to) u) (take (w .i) (drop (v .from) u)) (getD (w .universes) (v .from + w .i) 0 ∷ [])
+          ∙ ap (λ (y : ℕ). take (v .to) u ++ (take (w .i) (drop (v .from) u) ++ y ∷ [])) x
+          ∙ ap (λ (l : List ℕ). take (v .to) u ++ l) (sym m),
+      (rw f at q),
+    )
 
 same-length : tie.Need-same-length Inv-loop μ-loop
 same-length c = search needs

@@ -63,12 +63,13 @@ loop-again c =
     let u = v .universes .now in
     let i = w .i - 1 in
     let e : w .i ≡ i + 1 = omega arith in
-    let x = getD (w .universes) i 0 in
-    (omega arith,
-    omega arith,
-    simp length-set (w .inv .2),
-    take-set-le i (w .universes) (i + v .n) x (omega arith) ∙ take-less (w .universes) u (w .i) i (omega arith) (w .inv .3),
-    moved-up (w .universes) u (v .used) (v .n) i 0 (omega arith) (omega arith) (omega arith) (rw e at (w .inv .3)) (rw e at (w .inv .4)))
+    let x = getD (w .universes) i 0 in (
+      omega arith,
+      omega arith,
+      simp length-set (w .inv .2),
+      take-set-le i (w .universes) (i + v .n) x (omega arith) ∙ take-less (w .universes) u (w .i) i (omega arith) (w .inv .3),
+      moved-up (w .universes) u (v .used) (v .n) i 0 (omega arith) (omega arith) (omega arith) (rw e at (w .inv .3)) (rw e at (w .inv .4)),
+    )
 
 same-length : tie.Need-same-length Inv-loop μ-loop
 same-length c = search needs

@@ -63,13 +63,14 @@ loop-again c =
     let x = getD l (w .i) 0 in
     let p = pushed (w .universes) (take (v .at) u ++ take (w .i) l) (v .at + w .i) x (omega arith) (w .inv .2) in
     let q = further (w .universes) u (v .at + w .i) (v .at + w .i) x (omega arith) (w .inv .3) in
-    let m = take-suc l (w .i) 0 (omega arith) in
-    (omega arith,
-    simp length-set (w .inv .1),
-    (rw e at p)
-    ∙ append-assoc (take (v .at) u) (take (w .i) l) (x ∷ [])
-    ∙ ap (λ (k : List ℕ). take (v .at) u ++ k) (sym (rw (add-one (w .i)) m)),
-    (rw e at q))
+    let m = take-suc l (w .i) 0 (omega arith) in (
+      omega arith,
+      simp length-set (w .inv .1),
+      (rw e at p)
+          ∙ append-assoc (take (v .at) u) (take (w .i) l) (x ∷ [])
+          ∙ ap (λ (k : List ℕ). take (v .at) u ++ k) (sym (rw (add-one (w .i)) m)),
+      (rw e at q),
+    )
 
 same-length : tie.Need-same-length Inv-loop μ-loop
 same-length c = search needs

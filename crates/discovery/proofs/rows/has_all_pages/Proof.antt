@@ -85,13 +85,14 @@ loop-again c =
     let f : eqb (getD row 3 0) (w .next) ≡ true = eq-eqb (getD row 3 0) (w .next) (c .if3 .left) in
     let q = c .before .before .before .before .if1 .left in
     let m : suc (v .last-page) - w .next ≡ suc (v .last-page - w .next) = omega (arith, q) in
-    let n : suc (v .last-page) - (w .next + 1) ≡ v .last-page - w .next = omega (arith, q) in
-    (omega arith,
-    omega arith,
-    ap (λ (k : ℕ). in-turn (v .cid) (w .next + 1) k (drop (w .i + 1) (take (v .count) a))) n
-    ∙ in-turn-row (v .cid) a (v .count) (w .i) (omega arith) (omega arith) (w .next) (v .last-page - w .next) t f
-    ∙ ap (λ (k : ℕ). in-turn (v .cid) (w .next) k (drop (w .i) (take (v .count) a))) (sym m)
-    ∙ w .inv .2)
+    let n : suc (v .last-page) - (w .next + 1) ≡ v .last-page - w .next = omega (arith, q) in (
+      omega arith,
+      omega arith,
+      ap (λ (k : ℕ). in-turn (v .cid) (w .next + 1) k (drop (w .i + 1) (take (v .count) a))) n
+          ∙ in-turn-row (v .cid) a (v .count) (w .i) (omega arith) (omega arith) (w .next) (v .last-page - w .next) t f
+          ∙ ap (λ (k : ℕ). in-turn (v .cid) (w .next) k (drop (w .i) (take (v .count) a))) (sym m)
+          ∙ w .inv .2,
+    )
 
 loop-less-2 : tie.Need-loop-less-2 Inv-loop μ-loop
 loop-less-2 c = search needs
@@ -101,10 +102,11 @@ loop-again-2 c =
     let w = c .before .before .before .before .before .loop in
     let v = c .before .before .before .before .before .before .args in
     let a = v .pages .now in
-    let t : owned 0 (v .cid) (getD a (w .i) []) ≡ false = sym (c .before .is-page-of .ensures) ∙ c .if2 .left in
-    (omega arith,
-    omega arith,
-    in-turn-skip (v .cid) a (v .count) (w .i) (omega arith) (omega arith) (w .next) (suc (v .last-page) - w .next) t ∙ w .inv .2)
+    let t : owned 0 (v .cid) (getD a (w .i) []) ≡ false = sym (c .before .is-page-of .ensures) ∙ c .if2 .left in (
+      omega arith,
+      omega arith,
+      in-turn-skip (v .cid) a (v .count) (w .i) (omega arith) (omega arith) (w .next) (suc (v .last-page) - w .next) t ∙ w .inv .2,
+    )
 
 returns-3 : tie.Need-returns-3 Inv-loop μ-loop
 returns-3 c =

@@ -47,10 +47,11 @@ loop-again : tie.Need-loop-again Inv-loop μ-loop
 loop-again c =
     let w = c .before .before .loop in
     let v = c .before .before .before .args in
-    let n = v .name .now in
-    (omega arith,
-    simp length-set (w .inv .1),
-    pushed (w .row) (take (w .i) n) (w .i) (getD n (w .i) 0) (omega arith) (w .inv .2) ∙ sym (rw (add-one (w .i)) (take-suc n (w .i) 0 (omega arith))))
+    let n = v .name .now in (
+      omega arith,
+      simp length-set (w .inv .1),
+      pushed (w .row) (take (w .i) n) (w .i) (getD n (w .i) 0) (omega arith) (w .inv .2) ∙ sym (rw (add-one (w .i)) (take-suc n (w .i) 0 (omega arith))),
+    )
 
 returns : tie.Need-returns Inv-loop μ-loop
 returns c =

@@ -41,14 +41,23 @@ element-copy-out-row c = search needs
 is-page-of-requires : tie.Need-is-page-of-requires Inv-loop μ-loop
 is-page-of-requires c κs = search needs
 
-array-write-row : tie.Need-array-write-row Inv-loop μ-loop
-array-write-row c = search needs
+array-read-t15 : tie.Need-array-read-t15 Inv-loop μ-loop
+array-read-t15 c = search needs
 
-mul-t15 : tie.Need-mul-t15 Inv-loop μ-loop
-mul-t15 c = search needs
+array-read-t18 : tie.Need-array-read-t18 Inv-loop μ-loop
+array-read-t18 c = search needs
 
-element-set-from-pages : tie.Need-element-set-from-pages Inv-loop μ-loop
-element-set-from-pages c = search needs
+array-read-t21 : tie.Need-array-read-t21 Inv-loop μ-loop
+array-read-t21 c = search needs
+
+array-read-t24 : tie.Need-array-read-t24 Inv-loop μ-loop
+array-read-t24 c = search needs
+
+mul-turned : tie.Need-mul-turned Inv-loop μ-loop
+mul-turned c = search needs
+
+element-set-from-turned : tie.Need-element-set-from-turned Inv-loop μ-loop
+element-set-from-turned c = search needs
 
 add-i : tie.Need-add-i Inv-loop μ-loop
 add-i c = search needs
@@ -65,13 +74,15 @@ loop-again c =
     let row = getD (w .pages) (w .i) [] in
     let t : owned 0 (s .args .cid) row ≡ true = sym (c .before .is-page-of .ensures) ∙ c .if1 .taken in
     let e : row ≡ getD a (w .i) [] = read-first (w .pages) a (w .i) [] (w .inv .3) in
-    let x : set row 0 1 ≡ turned-row (s .args .cid) row = rw t in
-    (omega arith,
-    simp length-set (w .inv .1),
-    pushed (w .pages) (map (turned-row (s .args .cid)) (take (w .i) a)) (w .i) (set row 0 1) (omega arith) (w .inv .2)
-    ∙ ap (λ (y : List ℕ). map (turned-row (s .args .cid)) (take (w .i) a) ++ y ∷ []) (x ∙ ap (turned-row (s .args .cid)) e)
-    ∙ sym (map-more (turned-row (s .args .cid)) a (w .i) [] (omega arith)),
-    further (w .pages) a (w .i) (w .i) (set row 0 1) (omega arith) (w .inv .3))
+    let new : List ℕ = 1 ∷ getD row 1 0 ∷ getD row 2 0 ∷ getD row 3 0 ∷ getD row 4 0 ∷ [] in
+    let x : new ≡ turned-row (s .args .cid) row = rw t in (
+      omega arith,
+      simp length-set (w .inv .1),
+      pushed (w .pages) (map (turned-row (s .args .cid)) (take (w .i) a)) (w .i) new (omega arith) (w .inv .2)
+          ∙ ap (λ (y : List ℕ). map (turned-row (s .args .cid)) (take (w .i) a) ++ y ∷ []) (x ∙ ap (turned-row (s .args .cid)) e)
+          ∙ sym (map-more (turned-row (s .args .cid)) a (w .i) [] (omega arith)),
+      further (w .pages) a (w .i) (w .i) new (omega arith) (w .inv .3),
+    )
 
 add-i-2 : tie.Need-add-i-2 Inv-loop μ-loop
 add-i-2 c = search needs
@@ -88,14 +99,15 @@ loop-again-2 c =
     let row = getD (w .pages) (w .i) [] in
     let t : owned 0 (s .args .cid) row ≡ false = sym (c .before .is-page-of .ensures) ∙ c .if1 .left in
     let e : row ≡ getD a (w .i) [] = read-first (w .pages) a (w .i) [] (w .inv .3) in
-    let x : row ≡ turned-row (s .args .cid) row = rw t in
-    (omega arith,
-    w .inv .1,
-    taken-more (w .pages) (w .i) [] (omega arith)
-    ∙ ap (λ (y : List (List ℕ)). y ++ row ∷ []) (w .inv .2)
-    ∙ ap (λ (y : List ℕ). map (turned-row (s .args .cid)) (take (w .i) a) ++ y ∷ []) (x ∙ ap (turned-row (s .args .cid)) e)
-    ∙ sym (map-more (turned-row (s .args .cid)) a (w .i) [] (omega arith)),
-    further-read (w .pages) a (w .i) (w .inv .3))
+    let x : row ≡ turned-row (s .args .cid) row = rw t in (
+      omega arith,
+      w .inv .1,
+      taken-more (w .pages) (w .i) [] (omega arith)
+          ∙ ap (λ (y : List (List ℕ)). y ++ row ∷ []) (w .inv .2)
+          ∙ ap (λ (y : List ℕ). map (turned-row (s .args .cid)) (take (w .i) a) ++ y ∷ []) (x ∙ ap (turned-row (s .args .cid)) e)
+          ∙ sym (map-more (turned-row (s .args .cid)) a (w .i) [] (omega arith)),
+      further-read (w .pages) a (w .i) (w .inv .3),
+    )
 
 returns : tie.Need-returns Inv-loop μ-loop
 returns c =
@@ -114,9 +126,12 @@ turn-pages-spec =
     mul-row
     element-copy-out-row
     is-page-of-requires
-    array-write-row
-    mul-t15
-    element-set-from-pages
+    array-read-t15
+    array-read-t18
+    array-read-t21
+    array-read-t24
+    mul-turned
+    element-set-from-turned
     add-i
     loop-less
     loop-again
