@@ -7,3 +7,4 @@ pub mod Leaves
 pub mod Moves
 pub mod Pool
 pub mod Rows
+pub mod View
