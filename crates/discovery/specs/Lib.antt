@@ -8,3 +8,4 @@ pub mod Moves
 pub mod Pool
 pub mod Rows
 pub mod View
+pub mod Steps

@@ -72,7 +72,7 @@ abbrev pub turned-row : Cid → List ℕ → List ℕ
 turned-row c r = cond (owned 0 c r) (1 ∷ getD r 1 0 ∷ getD r 2 0 ∷ getD r 3 0 ∷ getD r 4 0 ∷ []) r
 
 -- ── rows, one more at a time ──
-total-append : (rs ss : List (List ℕ)) → total (rs ++ ss) ≡ total rs + total ss
+pub total-append : (rs ss : List (List ℕ)) → total (rs ++ ss) ≡ total rs + total ss
 unfolding total
 total-append [] ss = omega arith
 total-append (r ∷ rs) ss = omega (arith, total-append rs ss)
@@ -128,10 +128,10 @@ in-turn-none c k last =
     (λ h. let e : suc last - k ≡ suc (last - k) = omega (arith, ltb-false last k h) in rw (e, h))
 
 -- ── leaves ──
-abbrev leafWith : List ℕ → List ℕ → Leaf
+abbrev pub leafWith : List ℕ → List ℕ → Leaf
 leafWith r t = record { mark = getD r 0 0; cid = cidAt r; page = record { number = getD r 3 0; universes = t } }
 
-taken-dropped : {A : Type 0} (n m : ℕ) (l : List A) → drop n (take (n + m) l) ≡ take m (drop n l)
+pub taken-dropped : {A : Type 0} (n m : ℕ) (l : List A) → drop n (take (n + m) l) ≡ take m (drop n l)
 taken-dropped zero m l = let e : 0 + m ≡ m = omega arith in rw e
 taken-dropped (suc n) m [] = rw (take-nil (suc n + m), take-nil m)
 taken-dropped (suc n) m (x ∷ l) = let e : suc n + m ≡ suc (n + m) = omega arith in rw e (taken-dropped n m l)
@@ -150,7 +150,7 @@ leaves-within (r ∷ rs) us =
 pub leaves-agree : (rs : List (List ℕ)) (us vs : List ℕ) → take (total rs) us ≡ take (total rs) vs → leaves rs us ≡ leaves rs vs
 leaves-agree rs us vs e = leaves-within rs us ∙ ap (leaves rs) e ∙ sym (leaves-within rs vs)
 
-leaves-append : (rs ss : List (List ℕ)) (us : List ℕ) → leaves (rs ++ ss) us ≡ leaves rs us ++ leaves ss (drop (total rs) us)
+pub leaves-append : (rs ss : List (List ℕ)) (us : List ℕ) → leaves (rs ++ ss) us ≡ leaves rs us ++ leaves ss (drop (total rs) us)
 unfolding leaves total
 leaves-append [] ss us = refl
 leaves-append (r ∷ rs) ss us =
@@ -167,7 +167,7 @@ unfolding leaves
 length-leaves [] us = refl
 length-leaves (r ∷ rs) us = ap suc (length-leaves rs (drop (amount r) us))
 
-few-append : (rs : List (List ℕ)) (r : List ℕ) → Few rs → amount r ≤ 512 → Few (rs ++ r ∷ [])
+pub few-append : (rs : List (List ℕ)) (r : List ℕ) → Few rs → amount r ≤ 512 → Few (rs ++ r ∷ [])
 few-append [] r f h = (h, tt)
 few-append (x ∷ rs) r f h = (f .0, few-append rs r (f .1) h)
 
@@ -228,7 +228,7 @@ pub record Pass (count : ℕ) (A₀ : List (List ℕ)) (B₀ : List ℕ) (image 
   pub rest-rows : drop i A ≡ drop i A₀
   pub rest-pool : drop from B ≡ drop from B₀
 
-few-less : (j n : ℕ) (a : List (List ℕ)) → j ≤ n → Few (take n a) → Few (take j a)
+pub few-less : (j n : ℕ) (a : List (List ℕ)) → j ≤ n → Few (take n a) → Few (take j a)
 few-less zero n a h f = tt
 few-less (suc j) n [] h f = tt
 few-less (suc j) zero (r ∷ a) h f = absurd (omega arith)

@@ -19,7 +19,24 @@ use Rattle.rules.specs.Cid.{same}
 use Rattle.discovery.specs.declared.Discovery.{Discovery}
 use Rattle.discovery.specs.Discovery.{Page, Source, Discovered, capacity, pages-held, Once, Ordered, Proper}
 use Rattle.discovery.specs.Store.{
-  Head, Leaf, heads-of, held-by, pages-at, sourceOf, sources-at, viewOf, Marked, Housed, Sound, Single, single-heads, keep-none, keep-single, prefix-none, prefix-any, renewed,
+  Head,
+  Leaf,
+  heads-of,
+  held-by,
+  pages-at,
+  sourceOf,
+  sources-at,
+  viewOf,
+  Marked,
+  Housed,
+  Sound,
+  Single,
+  single-heads,
+  keep-none,
+  keep-single,
+  prefix-none,
+  prefix-any,
+  renewed,
 }
 use Rattle.discovery.specs.Leaves.{held-leaves, heads-leaves, pages-none}
 use Rattle.discovery.specs.Moves.{without, others, leaves-of-others, view-dropped, sound-dropped, with-source, leafOf, view-with, sound-with}

@@ -47,7 +47,15 @@ pub enum PageAnswer {
 
 impl Discovery {
     // The source of this mark goes, with its pages.
-    fn drop_source(self, sources: &mut [[u64; 6]; 64], names: &mut [[u8; 63]; 64], pages: &mut [[u64; 5]; 64], universes: &mut [u16], mark: u64, cid: Cid) -> Discovery
+    fn drop_source(
+        self,
+        sources: &mut [[u64; 6]; 64],
+        names: &mut [[u8; 63]; 64],
+        pages: &mut [[u64; 5]; 64],
+        universes: &mut [u16],
+        mark: u64,
+        cid: Cid,
+    ) -> Discovery
         requires { ⌜ Kept self (now sources) (now names) (now pages) (now universes) × (mark < 2) ⌝ }
         ensures { λ r. ⌜ Dropped mark cid self (now (sources .entry)) (now (names .entry)) (now (pages .entry)) (now (universes .entry)) r (now (sources .exit)) (now (names .exit)) (now (pages .exit)) (now (universes .exit)) ⌝ }
     {

@@ -2,15 +2,21 @@
 ghost use mathlib.Core.Path.{_≡_};
 ghost use mathlib.Core.Bool.{not};
 ghost use mathlib.Core.List.{map};
-ghost use Prim.Native.Nat.{_≤_};
+ghost use Prim.Native.Nat.{_+_, _≤_, _<_};
 ghost use lib.ListN.{length, take};
 ghost use Rattle.table.specs.Table.{keep};
+ghost use Rattle.table.specs.Place.{prefix, insertAt};
 ghost use Rattle.discovery.specs.Store.{held-by};
-ghost use Rattle.discovery.specs.Leaves.{cut-leaf};
-ghost use Rattle.discovery.specs.Rows.{leaves, Packing, Packs};
+ghost use Rattle.discovery.specs.Leaves.{behind, cut-leaf};
+ghost use Rattle.discovery.specs.Rows.{leaves, total, Packing, Packs};
 use crate::pool::cut_down;
 use crate::pool::move_down;
+use crate::pool::open_gap;
+use crate::pool::write_at;
+use crate::rows::insert_page;
 use crate::rows::is_page_of;
+use crate::rows::offset;
+use crate::rows::page_place;
 use rules::Cid;
 
 // How many pages are left, and how many universes they have.
@@ -87,4 +93,26 @@ pub fn cut_pages(
         }
     }
     to
+}
+
+// One page more for a partial source, behind its pages of no larger number.
+pub fn add_page(
+    pages: &mut [[u64; 5]; 64],
+    universes: &mut [u16],
+    count: usize,
+    used: usize,
+    cid: Cid,
+    number: u8,
+    list: &[u16],
+)
+    requires { ⌜ Packing count (now pages) (now universes) × (used ≡ total (take count (now pages))) × (count < 64) × (length (now list) ≤ 512) ⌝ }
+    ensures { λ r. ⌜ Packs (count + 1) (used + length (now (list .entry))) (length (now (universes .entry))) (now (pages .exit)) (now (universes .exit)) (insertAt (prefix (behind 0 cid number) (leaves (take count (now (pages .entry))) (now (universes .entry)))) (record { mark = 0; cid = cid; page = record { number = number; universes = now (list .entry) } }) (leaves (take count (now (pages .entry))) (now (universes .entry)))) ⌝ }
+{
+    let n = list.len();
+    let at = page_place(&*pages, count, cid, number);
+    let begin = offset(&*pages, at);
+    open_gap(&mut *universes, used, begin, n);
+    write_at(&mut *universes, begin, list);
+    let row = [0, cid.hi, cid.lo, number as u64, n as u64];
+    insert_page(&mut *pages, count, at, row);
 }
