@@ -205,7 +205,7 @@ pub record Fitting (a : Announcement) : Type 0 where
   pub short-name : length (a .name) ≤ most-name
   pub few-universes : length (a .universes) ≤ most-universes
 
-proper-begun : (now : ℕ) (a : Announcement) → Fitting a → Proper (begun now a)
+pub proper-begun : (now : ℕ) (a : Announcement) → Fitting a → Proper (begun now a)
 unfolding begun any
 proper-begun now a f = record {
   short-name = f .short-name;
@@ -214,7 +214,7 @@ proper-begun now a f = record {
   proper-pages = (record { few-universes = f .few-universes }, tt);
 }
 
-proper-extended : (now : ℕ) (a : Announcement) (s : Source) → Fitting a → Proper s → Proper (extended now a s)
+pub proper-extended : (now : ℕ) (a : Announcement) (s : Source) → Fitting a → Proper s → Proper (extended now a s)
 unfolding extended
 proper-extended now a s f p =
     let ps = s .pages ++ pageOf a ∷ [] in

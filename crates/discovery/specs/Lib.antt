@@ -9,3 +9,4 @@ pub mod Pool
 pub mod Rows
 pub mod View
 pub mod Steps
+pub mod Calls

@@ -79,11 +79,13 @@ pub offset-inside : (at count : ℕ) (P : List (List ℕ)) → at ≤ count → 
 offset-inside at count P h = rw (← (take-take at count P h)) (omega (arith, total-parts at (take count P)))
 
 -- there is room for one page more
-pub pool-room : (count : ℕ) (P : List (List ℕ)) (U : List ℕ) (n : ℕ) → Packing count P U → count < 64 → n ≤ 512 → total (take count P) + n ≤ length U
-pool-room count P U n g h k =
+pub pool-small : (count : ℕ) (P : List (List ℕ)) (U : List ℕ) (n : ℕ) → Packing count P U → count < 64 → n ≤ 512 → total (take count P) + n ≤ 32768
+pool-small count P U n g h k =
     let r : length P ≡ 64 = g .rows in
-    let b : 32768 ≤ length U = g .pool in
     omega (arith, total-few (take count P) (g .few), length-take count P)
+
+pub pool-room : (count : ℕ) (P : List (List ℕ)) (U : List ℕ) (n : ℕ) → Packing count P U → count < 64 → n ≤ 512 → total (take count P) + n ≤ length U
+pool-room count P U n g h k = let b : 32768 ≤ length U = g .pool in omega (arith, pool-small count P U n g h k)
 
 pub place-within : (p : List ℕ → Bool) (count : ℕ) (P : List (List ℕ)) → prefix p (take count P) ≤ count
 place-within p count P = omega (arith, prefix-le p (take count P), length-take count P)

@@ -61,6 +61,11 @@ pub record Kept (d : Discovery) (sources names pages : List (List ℕ)) (univers
   pub filled : d .used ≡ total (take (d .«page_count») pages)
   pub sound : Sound (headsOf d sources names) (leavesOf d pages universes)
 
+-- kept, and with these sources
+pub record Holds (d : Discovery) (sources names pages : List (List ℕ)) (universes : List ℕ) (e : Discovered) : Type 0 where
+  pub kept : Kept d sources names pages universes
+  pub seen : discoveredOf d sources names pages universes ≡ e
+
 -- ── heads of rows ──
 module _ (m : ℕ) (c : Cid) where
   pub heads-prefix : (rs ns : List (List ℕ)) → prefix (λ h. not (heads-of m c h)) (heads rs ns) ≡ prefix (λ r. not (owned m c r)) rs

@@ -12,7 +12,9 @@ ghost use Rattle.table.specs.Table.{any};
 ghost use Rattle.table.specs.Place.{prefix};
 ghost use Rattle.discovery.specs.Store.{heads-of};
 ghost use Rattle.discovery.specs.Rows.{owned};
-ghost use Rattle.discovery.specs.View.{headsOf, leavesOf, discoveredOf, Kept, Dropped};
+ghost use Rattle.discovery.specs.Discovery.{begun};
+ghost use Rattle.discovery.specs.Moves.{with-source};
+ghost use Rattle.discovery.specs.View.{headsOf, leavesOf, discoveredOf, Kept, Holds, Dropped};
 use crate::pages::cut_pages;
 use crate::pages::drop_pages;
 use crate::pool::open_gap;
@@ -47,15 +49,7 @@ pub enum PageAnswer {
 
 impl Discovery {
     // The source of this mark goes, with its pages.
-    fn drop_source(
-        self,
-        sources: &mut [[u64; 6]; 64],
-        names: &mut [[u8; 63]; 64],
-        pages: &mut [[u64; 5]; 64],
-        universes: &mut [u16],
-        mark: u64,
-        cid: Cid,
-    ) -> Discovery
+    fn drop_source(self, sources: &mut [[u64; 6]; 64], names: &mut [[u8; 63]; 64], pages: &mut [[u64; 5]; 64], universes: &mut [u16], mark: u64, cid: Cid) -> Discovery
         requires { ⌜ Kept self (now sources) (now names) (now pages) (now universes) × (mark < 2) ⌝ }
         ensures { λ r. ⌜ Dropped mark cid self (now (sources .entry)) (now (names .entry)) (now (pages .entry)) (now (universes .entry)) r (now (sources .exit)) (now (names .exit)) (now (pages .exit)) (now (universes .exit)) ⌝ }
     {
@@ -71,6 +65,29 @@ impl Discovery {
             source_count: count - 1,
             page_count: left.page_count,
             used: left.used,
+        }
+    }
+
+    // A source with its first page, put behind the others of its mark.
+    fn add_source(self, sources: &mut [[u64; 6]; 64], names: &mut [[u8; 63]; 64], pages: &mut [[u64; 5]; 64], universes: &mut [u16], reading: u64, mark: u64, cid: Cid, page: u8, last_page: u8, name: &[u8], list: &[u16]) -> Discovery
+        requires { ⌜ Kept self (now sources) (now names) (now pages) (now universes) × (mark < 2) × (self .«page_count» < 64) × (length (now name) ≤ 63) × (length (now list) ≤ 512) × (any (heads-of mark cid) (headsOf self (now sources) (now names)) ≡ false) ⌝ }
+        ensures { λ r. ⌜ Holds r (now (sources .exit)) (now (names .exit)) (now (pages .exit)) (now (universes .exit)) (with-source mark (begun reading (record { cid = cid; name = now (name .entry); page = page; last-page = «last_page»; universes = now (list .entry) })) (discoveredOf self (now (sources .entry)) (now (names .entry)) (now (pages .entry)) (now (universes .entry)))) ⌝ }
+    {
+        let at = self.source_count;
+        let count = self.page_count;
+        let used = self.used;
+        let n = list.len();
+        let source_row = [mark, cid.hi, cid.lo, last_page as u64, reading, name.len() as u64];
+        let page_row = [mark, cid.hi, cid.lo, page as u64, n as u64];
+        let kept_name = name_row(name);
+        write_at(&mut *universes, used, list);
+        sources[at] = source_row;
+        names[at] = kept_name;
+        pages[count] = page_row;
+        Discovery {
+            source_count: at + 1,
+            page_count: count + 1,
+            used: used + n,
         }
     }
 }
