@@ -256,7 +256,7 @@ all-cut c u (s ∷ ss) a =
     let r = all-cut c u ss (a .1) in
     split (same (s .cid) c) (λ h. rw h (proper-cut u s (a .0), r)) (λ h. rw h (a .0, r))
 
-proper-lookup : (c : Cid) (ss : List Source) (s : Source) → All-proper ss → lookup c ss ≡ some s → Proper s
+pub proper-lookup : (c : Cid) (ss : List Source) (s : Source) → All-proper ss → lookup c ss ≡ some s → Proper s
 unfolding lookup
 proper-lookup c [] s a h = missing {C = Proper s} s h refl
 proper-lookup c (t ∷ ss) s a h =
@@ -373,9 +373,14 @@ ordered-noting (list s) d o f p h = record {
   fit = omega (arith, held-noting (list s) d o f);
 }
 
-length-extended : (now : ℕ) (a : Announcement) (s : Source) → length (extended now a s .pages) ≡ suc (length (s .pages))
+pub length-extended : (now : ℕ) (a : Announcement) (s : Source) → length (extended now a s .pages) ≡ suc (length (s .pages))
 unfolding extended
 length-extended now a s = omega (arith, length-sorted (s .pages ++ pageOf a ∷ []), length-append (s .pages) (pageOf a ∷ []))
+
+-- a source extended has its CID
+pub lookup-extended : (now : ℕ) (a : Announcement) (t : Source) (ss : List Source) → lookup (a .cid) ss ≡ some t → lookup (extended now a t .cid) ss ≡ some t
+unfolding extended
+lookup-extended now a t ss e = ap (λ (c : Cid). lookup c ss) (lookup-cid (a .cid) ss t e) ∙ e
 
 notable-first : (b : Bool) (d : Discovered) (s : Source) → lookup (s .cid) (d .partial) ≡ none → length (s .pages) ≡ 1 → Notable (cond b (list s) (begin s)) d
 notable-first true d s e l = rw e l
@@ -392,10 +397,7 @@ unfolding noted begun extended
 notable-noted now a d =
     found {C = Notable (noted now a (lookup (a .cid) (d .partial))) d} (lookup (a .cid) (d .partial))
     (λ e. rw e (notable-first (eqb (a .page) 0 && eqb (a .last-page) 0) d (begun now a) e refl))
-    (λ t e. rw e (notable-next (complete (extended now a t)) d (extended now a t) t (same-cid t e) (length-extended now a t)))
-  where
-    same-cid : (t : Source) → lookup (a .cid) (d .partial) ≡ some t → lookup (extended now a t .cid) (d .partial) ≡ some t
-    same-cid t e = ap (λ (c : Cid). lookup c (d .partial)) (lookup-cid (a .cid) (d .partial) t e) ∙ e
+    (λ t e. rw e (notable-next (complete (extended now a t)) d (extended now a t) t (lookup-extended now a t (d .partial) e) (length-extended now a t)))
 
 source-either : (b : Bool) (s : Source) → noted-source (cond b (list s) (begin s)) ≡ s
 source-either true s = refl
