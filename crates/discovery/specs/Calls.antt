@@ -10,6 +10,7 @@ use native.Mathlib.Numerals.{add-one}
 use lib.Dec.{eqb, ltb, leb}
 use lib.ListN.{length, take, drop, getD, set, length-take, length-drop, length-append, length-set}
 use lib.Seq.{take-take, take-all, take-suc-set, take-set-lt, getD-take}
+use borrow.Author.Tests.{ltb-true, ltb-false}
 use Rattle.table.specs.Cases.{split, clash, found}
 use Rattle.table.specs.Table.{keep, any}
 use Rattle.table.specs.Place.{prefix, insertAt, removeAt, length-removeAt}
@@ -17,8 +18,33 @@ use Rattle.rules.specs.declared.Cid.{Cid}
 use Rattle.rules.specs.Cid.{same}
 use Rattle.discovery.specs.declared.Discovery.{Discovery}
 use Rattle.discovery.specs.Discovery.{
-  Page, Source, Discovered, Announcement, lookup, drop-source, relisted, updated, sorted, numbered, complete, pageOf, extended, begun, begin, extend, list, noted, noting,
-  page-count, pages-held, capacity, Once, Rising, Ordered, Proper, All-proper,
+  Page,
+  Source,
+  Discovered,
+  Announcement,
+  lookup,
+  drop-source,
+  relisted,
+  updated,
+  sorted,
+  numbered,
+  complete,
+  pageOf,
+  extended,
+  begun,
+  begin,
+  extend,
+  list,
+  noted,
+  noting,
+  page-count,
+  pages-held,
+  capacity,
+  Once,
+  Rising,
+  Ordered,
+  Proper,
+  All-proper,
 }
 use Rattle.discovery.specs.Laws.{lookup-none, none-lookup, lookup-cid}
 use Rattle.discovery.specs.Kept.{Fitting, proper-begun, proper-extended, proper-lookup, dropped-none, sorted-added, ordered-noting, length-extended, lookup-extended, pages-of, count-drop, count-append, once-drop, once-append, all-keep, all-append}
@@ -27,11 +53,45 @@ use Rattle.discovery.specs.Leaves.{behind, turned}
 use Rattle.discovery.specs.Moves.{without, with-source, leafOf, view-with, sound-with, others, listed-head, head-of, view-turned, sound-turned, heads-turned, grown, view-extended, sound-extended}
 use Rattle.discovery.specs.Pool.{pushed}
 use Rattle.discovery.specs.Rows.{
-  cidAt, owned, headOf, leafAt, leafWith, heads, leaves, total, amount, Few, Packing, Packs, larger, turned-row, page-pushed, total-pushed, few-pushed, total-few,
+  cidAt,
+  owned,
+  headOf,
+  leafAt,
+  leafWith,
+  heads,
+  leaves,
+  total,
+  amount,
+  Few,
+  Packing,
+  Packs,
+  larger,
+  turned-row,
+  page-pushed,
+  total-pushed,
+  few-pushed,
+  total-few,
 }
 use Rattle.discovery.specs.Steps.{pool-room}
 use Rattle.discovery.specs.View.{
-  headsOf, leavesOf, discoveredOf, Kept, Holds, Dropped, heads-append, length-headsOf, length-leavesOf, kept-fewer, absent-heads, heads-prefix, heads-removeAt, heads-set, heads-getD, kept-held, single-sound, length-heads,
+  headsOf,
+  leavesOf,
+  discoveredOf,
+  Kept,
+  Holds,
+  Dropped,
+  heads-append,
+  length-headsOf,
+  length-leavesOf,
+  kept-fewer,
+  absent-heads,
+  heads-prefix,
+  heads-removeAt,
+  heads-set,
+  heads-getD,
+  kept-held,
+  single-sound,
+  length-heads,
 }
 
 -- ── a source with one page is put behind the others of its mark ──
@@ -133,8 +193,8 @@ module _ (d : Discovery) (S N P : List (List ℕ)) (U : List ℕ) (k : Kept d S 
     (place : at ≡ prefix (λ r. not (owned 0 (a .cid) r)) (take (d .«source_count») S)) (inside : at < d .«source_count») (room : d .«page_count» < 64)
     (P′ : List (List ℕ)) (U′ : List ℕ) (size : ℕ)
     (p : Packs (d .«page_count» + 1) (d .used + length (a .universes)) size P′ U′
-        (insertAt (prefix (behind 0 (a .cid) (a .page)) (leaves (take (d .«page_count») P) U)) (record { mark = 0; cid = a .cid; page = record { number = a .page; universes = a .universes } })
-        (leaves (take (d .«page_count») P) U)))
+    (insertAt (prefix (behind 0 (a .cid) (a .page)) (leaves (take (d .«page_count») P) U)) (record { mark = 0; cid = a .cid; page = record { number = a .page; universes = a .universes } })
+    (leaves (take (d .«page_count») P) U)))
     (t : Source) (e : lookup (a .cid) (discoveredOf d S N P U .partial) ≡ some t) where
   abbrev pub page-more : Discovery
   page-more = record { «source_count» = d .«source_count»; «page_count» = d .«page_count» + 1; used = d .used + length (a .universes) }
@@ -204,7 +264,7 @@ module _ (d : Discovery) (S N P : List (List ℕ)) (U : List ℕ) (k : Kept d S 
       let S′ = set S at (renewed-row now (getD S at [])) in
       let v = view-extended (a .cid) now (pageOf a) h₀ hs ls t (k .sound) seen-before in
       let z : record { partial = updated (grown (a .cid) now (pageOf a) h₀ hs ls t (k .sound) seen-before) (viewOf hs ls .partial); listed = viewOf hs ls .listed }
-          ≡ noting (extend (extended now a t)) (viewOf hs ls) =
+      ≡ noting (extend (extended now a t)) (viewOf hs ls) =
       ap (λ (s : Source). record { partial = updated s (viewOf hs ls .partial); listed = viewOf hs ls .listed }) grown-is in
       record {
         kept = record {
@@ -329,3 +389,46 @@ module _ (d : Discovery) (S N P : List (List ℕ)) (U : List ℕ) (k : Kept d S 
             ∙ ap (viewOf (heads-turned c h₁ hs ls t (k .sound) seen-partial absent)) leaves-turned-are
             ∙ view-turned c h₁ hs ls t (k .sound) seen-partial absent;
       }
+
+-- an owner that has a head has its place
+pub found-inside : (m : ℕ) (c : Cid) (d : Discovery) (S N P : List (List ℕ)) (U : List ℕ) (k : Kept d S N P U) → any (heads-of m c) (headsOf d S N) ≡ true
+    → prefix (λ r. not (owned m c r)) (take (d .«source_count») S) < d .«source_count»
+found-inside m c d S N P U k a =
+    let p = prefix (λ r. not (owned m c r)) (take (d .«source_count») S) in
+    split (ltb p (d .«source_count»))
+    (λ h. ltb-true p (d .«source_count») h)
+    (λ h. clash a (absent-heads m c d S N P U k (ltb-false p (d .«source_count») h)))
+
+-- ── the old listed entry is dropped, then the partial one turned ──
+module _ (c : Cid) (d : Discovery) (S N P : List (List ℕ)) (U : List ℕ) (d₁ : Discovery) (S₁ N₁ P₁ : List (List ℕ)) (U₁ : List ℕ)
+    (g : Dropped 1 c d S N P U d₁ S₁ N₁ P₁ U₁) where
+  partial-same : discoveredOf d₁ S₁ N₁ P₁ U₁ .partial ≡ discoveredOf d S N P U .partial
+  partial-same = ap (λ (v : Discovered). v .partial) (g .view)
+
+  listed-less : discoveredOf d₁ S₁ N₁ P₁ U₁ .listed ≡ drop-source c (discoveredOf d S N P U .listed)
+  listed-less = ap (λ (v : Discovered). v .listed) (g .view)
+
+  pub still-partial : any (heads-of 0 c) (headsOf d S N) ≡ true → any (heads-of 0 c) (headsOf d₁ S₁ N₁) ≡ true
+  unfolding discoveredOf viewOf
+  still-partial a =
+      sym (any-sources 0 c (headsOf d₁ S₁ N₁) (pages-at 0 (leavesOf d₁ P₁ U₁)))
+      ∙ ap (any (λ s. same (s .cid) c)) partial-same
+      ∙ any-sources 0 c (headsOf d S N) (pages-at 0 (leavesOf d P U))
+      ∙ a
+
+  pub list-done : (at : ℕ) → at ≡ prefix (λ r. not (owned 0 c r)) (take (d₁ .«source_count») S₁) → at < d₁ .«source_count»
+      → (S′ N′ P′ : List (List ℕ)) → length S′ ≡ 64 → length N′ ≡ 64 → length P′ ≡ 64
+      → take (d₁ .«source_count») S′ ≡ removeAt at (take (d₁ .«source_count») S₁) ++ listed-row (getD S₁ at []) ∷ []
+      → take (d₁ .«source_count») N′ ≡ removeAt at (take (d₁ .«source_count») N₁) ++ getD N₁ at [] ∷ []
+      → take (d₁ .«page_count») P′ ≡ map (turned-row c) (take (d₁ .«page_count») P₁)
+      → (t : Source) → lookup c (discoveredOf d S N P U .partial) ≡ some t → Holds d₁ S′ N′ P′ U₁ (noting (list t) (discoveredOf d S N P U))
+  unfolding noting relisted
+  list-done at place inside S′ N′ P′ s64 n64 p64 s n p t e =
+      let e′ : lookup c (discoveredOf d₁ S₁ N₁ P₁ U₁ .partial) ≡ some t = ap (lookup c) partial-same ∙ e in
+      let h = source-listed d₁ S₁ N₁ P₁ U₁ (g .kept) c at place inside (g .gone) S′ N′ P′ s64 n64 p64 s n p t e′ in
+      let i : t .cid ≡ c = lookup-cid c (discoveredOf d S N P U .partial) t e in
+      let x : drop-source c (discoveredOf d₁ S₁ N₁ P₁ U₁ .partial) ≡ drop-source (t .cid) (discoveredOf d S N P U .partial) =
+      ap (drop-source c) partial-same ∙ ap (λ (b : Cid). drop-source b (discoveredOf d S N P U .partial)) (sym i) in
+      let y : discoveredOf d₁ S₁ N₁ P₁ U₁ .listed ++ t ∷ [] ≡ drop-source (t .cid) (discoveredOf d S N P U .listed) ++ t ∷ [] =
+      ap (λ (l : List Source). l ++ t ∷ []) (listed-less ∙ ap (λ (b : Cid). drop-source b (discoveredOf d S N P U .listed)) (sym i)) in
+      record { kept = h .kept; seen = h .seen ∙ (λ j. record { partial = x j; listed = y j }) }

@@ -4,7 +4,7 @@ mod pool;
 mod rows;
 
 ghost use mathlib.Core.Path.{_≡_};
-ghost use mathlib.Core.Bool.{false, not};
+ghost use mathlib.Core.Bool.{true, false, not};
 ghost use mathlib.Core.List.{[], _∷_};
 ghost use Prim.Native.Nat.{_+_, _≤_, _<_};
 ghost use lib.ListN.{length, take};
@@ -12,22 +12,21 @@ ghost use Rattle.table.specs.Table.{any};
 ghost use Rattle.table.specs.Place.{prefix};
 ghost use Rattle.discovery.specs.Store.{heads-of};
 ghost use Rattle.discovery.specs.Rows.{owned};
-ghost use Rattle.discovery.specs.Discovery.{begun};
+ghost use mathlib.Core.Option.{some};
+ghost use Rattle.discovery.specs.Discovery.{Source, lookup, begun, extended, extend, list, noting, arrived};
 ghost use Rattle.discovery.specs.Moves.{with-source};
 ghost use Rattle.discovery.specs.View.{headsOf, leavesOf, discoveredOf, Kept, Holds, Dropped};
+use crate::pages::add_page;
 use crate::pages::cut_pages;
 use crate::pages::drop_pages;
-use crate::pool::open_gap;
 use crate::pool::write_at;
 use crate::rows::find_source;
 use crate::rows::has_all_pages;
-use crate::rows::insert_page;
 use crate::rows::name_row;
-use crate::rows::offset;
-use crate::rows::page_place;
 use crate::rows::remove_name;
 use crate::rows::remove_source;
 use crate::rows::turn_pages;
+use crate::rows::turn_source;
 use rules::Cid;
 
 // What is known of the sources, in rows and a pool of universes that the caller lends to every call.
@@ -49,7 +48,15 @@ pub enum PageAnswer {
 
 impl Discovery {
     // The source of this mark goes, with its pages.
-    fn drop_source(self, sources: &mut [[u64; 6]; 64], names: &mut [[u8; 63]; 64], pages: &mut [[u64; 5]; 64], universes: &mut [u16], mark: u64, cid: Cid) -> Discovery
+    fn drop_source(
+        self,
+        sources: &mut [[u64; 6]; 64],
+        names: &mut [[u8; 63]; 64],
+        pages: &mut [[u64; 5]; 64],
+        universes: &mut [u16],
+        mark: u64,
+        cid: Cid,
+    ) -> Discovery
         requires { ⌜ Kept self (now sources) (now names) (now pages) (now universes) × (mark < 2) ⌝ }
         ensures { λ r. ⌜ Dropped mark cid self (now (sources .entry)) (now (names .entry)) (now (pages .entry)) (now (universes .entry)) r (now (sources .exit)) (now (names .exit)) (now (pages .exit)) (now (universes .exit)) ⌝ }
     {
@@ -69,7 +76,20 @@ impl Discovery {
     }
 
     // A source with its first page, put behind the others of its mark.
-    fn add_source(self, sources: &mut [[u64; 6]; 64], names: &mut [[u8; 63]; 64], pages: &mut [[u64; 5]; 64], universes: &mut [u16], reading: u64, mark: u64, cid: Cid, page: u8, last_page: u8, name: &[u8], list: &[u16]) -> Discovery
+    fn add_source(
+        self,
+        sources: &mut [[u64; 6]; 64],
+        names: &mut [[u8; 63]; 64],
+        pages: &mut [[u64; 5]; 64],
+        universes: &mut [u16],
+        reading: u64,
+        mark: u64,
+        cid: Cid,
+        page: u8,
+        last_page: u8,
+        name: &[u8],
+        list: &[u16],
+    ) -> Discovery
         requires { ⌜ Kept self (now sources) (now names) (now pages) (now universes) × (mark < 2) × (self .«page_count» < 64) × (length (now name) ≤ 63) × (length (now list) ≤ 512) × (any (heads-of mark cid) (headsOf self (now sources) (now names)) ≡ false) ⌝ }
         ensures { λ r. ⌜ Holds r (now (sources .exit)) (now (names .exit)) (now (pages .exit)) (now (universes .exit)) (with-source mark (begun reading (record { cid = cid; name = now (name .entry); page = page; last-page = «last_page»; universes = now (list .entry) })) (discoveredOf self (now (sources .entry)) (now (names .entry)) (now (pages .entry)) (now (universes .entry)))) ⌝ }
     {
@@ -77,7 +97,14 @@ impl Discovery {
         let count = self.page_count;
         let used = self.used;
         let n = list.len();
-        let source_row = [mark, cid.hi, cid.lo, last_page as u64, reading, name.len() as u64];
+        let source_row = [
+            mark,
+            cid.hi,
+            cid.lo,
+            last_page as u64,
+            reading,
+            name.len() as u64,
+        ];
         let page_row = [mark, cid.hi, cid.lo, page as u64, n as u64];
         let kept_name = name_row(name);
         write_at(&mut *universes, used, list);
@@ -89,5 +116,65 @@ impl Discovery {
             page_count: count + 1,
             used: used + n,
         }
+    }
+
+    // One page more for the partial source at place at.
+    fn extend_source(
+        self,
+        sources: &mut [[u64; 6]; 64],
+        names: &[[u8; 63]; 64],
+        pages: &mut [[u64; 5]; 64],
+        universes: &mut [u16],
+        reading: u64,
+        at: usize,
+        cid: Cid,
+        page: u8,
+        last_page: u8,
+        name: &[u8],
+        list: &[u16],
+    ) -> Discovery
+        requires { ⌜ Kept self (now sources) (now names) (now pages) (now universes) × (self .«page_count» < 64) × (length (now name) ≤ 63) × (length (now list) ≤ 512) × (at ≡ prefix (λ row. not (owned 0 cid row)) (take (self .«source_count») (now sources))) × (at < self .«source_count») ⌝ }
+        ensures { λ r. ⌜ ((t : Source) → lookup cid (discoveredOf self (now (sources .entry)) (now (names .entry)) (now (pages .entry)) (now (universes .entry)) .partial) ≡ some t → Holds r (now (sources .exit)) (now (names .entry)) (now (pages .exit)) (now (universes .exit)) (noting (extend (extended reading (record { cid = cid; name = now (name .entry); page = page; last-page = «last_page»; universes = now (list .entry) }) t)) (discoveredOf self (now (sources .entry)) (now (names .entry)) (now (pages .entry)) (now (universes .entry))))) ⌝ }
+    {
+        let count = self.page_count;
+        let used = self.used;
+        let n = list.len();
+        add_page(&mut *pages, &mut *universes, count, used, cid, page, list);
+        let row = sources[at];
+        let renewed = [row[0], row[1], row[2], row[3], reading, row[5]];
+        sources[at] = renewed;
+        Discovery {
+            source_count: self.source_count,
+            page_count: count + 1,
+            used: used + n,
+        }
+    }
+
+    // The partial source is listed, in the place of the one listed before.
+    fn list_source(
+        self,
+        sources: &mut [[u64; 6]; 64],
+        names: &mut [[u8; 63]; 64],
+        pages: &mut [[u64; 5]; 64],
+        universes: &mut [u16],
+        cid: Cid,
+    ) -> Discovery
+        requires { ⌜ Kept self (now sources) (now names) (now pages) (now universes) × (any (heads-of 0 cid) (headsOf self (now sources) (now names)) ≡ true) ⌝ }
+        ensures { λ r. ⌜ ((t : Source) → lookup cid (discoveredOf self (now (sources .entry)) (now (names .entry)) (now (pages .entry)) (now (universes .entry)) .partial) ≡ some t → Holds r (now (sources .exit)) (now (names .exit)) (now (pages .exit)) (now (universes .exit)) (noting (list t) (discoveredOf self (now (sources .entry)) (now (names .entry)) (now (pages .entry)) (now (universes .entry))))) ⌝ }
+    {
+        let d = self.drop_source(
+            &mut *sources,
+            &mut *names,
+            &mut *pages,
+            &mut *universes,
+            1,
+            cid,
+        );
+        let count = d.source_count;
+        let page_count = d.page_count;
+        let at = find_source(&*sources, count, 0, cid);
+        turn_source(&mut *sources, &mut *names, count, at);
+        turn_pages(&mut *pages, page_count, cid);
+        d
     }
 }

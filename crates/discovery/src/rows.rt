@@ -1,12 +1,13 @@
 // The rows of sources and pages: whose they are, and rows found, put in, taken out and turned.
 ghost use mathlib.Core.Path.{_≡_};
 ghost use mathlib.Core.Bool.{not, _&&_};
-ghost use mathlib.Core.List.{map};
+ghost use mathlib.Core.List.{[], _∷_, _++_, map};
 ghost use Prim.Native.Nat.{suc, _+_, _-_, _≤_, _<_};
 ghost use lib.Dec.{ltb};
 ghost use lib.ListN.{length, take, getD};
 ghost use Rattle.table.specs.Place.{prefix, insertAt, removeAt};
 ghost use Rattle.discovery.specs.Store.{owner};
+ghost use Rattle.discovery.specs.Calls.{listed-row};
 ghost use Rattle.discovery.specs.Rows.{owned, larger, total, Few, in-turn, turned-row};
 use rules::Cid;
 
@@ -81,6 +82,26 @@ pub fn remove_name(names: &mut [[u8; 63]; 64], count: usize, at: usize)
         names[to] = row;
         to += 1;
     }
+}
+
+// A partial source's row moved to the end as a listed one's, with its name.
+pub fn turn_source(
+    sources: &mut [[u64; 6]; 64],
+    names: &mut [[u8; 63]; 64],
+    count: usize,
+    at: usize,
+)
+    requires { ⌜ (count ≤ 64) × (at < count) × (length (now sources) ≡ 64) × (length (now names) ≡ 64) ⌝ }
+    ensures { λ r. ⌜ (length (now (sources .exit)) ≡ 64) × (length (now (names .exit)) ≡ 64) × (take count (now (sources .exit)) ≡ removeAt at (take count (now (sources .entry))) ++ listed-row (getD (now (sources .entry)) at []) ∷ []) × (take count (now (names .exit)) ≡ removeAt at (take count (now (names .entry))) ++ getD (now (names .entry)) at [] ∷ []) ⌝ }
+{
+    let row = sources[at];
+    let name = names[at];
+    remove_source(&mut *sources, count, at);
+    remove_name(&mut *names, count, at);
+    let last = count - 1;
+    let turned = [1, row[1], row[2], row[3], row[4], row[5]];
+    sources[last] = turned;
+    names[last] = name;
 }
 
 // A name's bytes in a row of names.
