@@ -10,3 +10,5 @@ pub mod Rows
 pub mod View
 pub mod Steps
 pub mod Calls
+pub mod Arrive
+pub mod Sweep

@@ -362,7 +362,7 @@ module _ (c : Cid) (now : ℕ) (p : Page) (h₀ : Head) (hs : List Head) (ls : L
 
 -- ── a partial source is listed ──
 -- the source found is that of the head at its place
-lookup-head : (m : ℕ) (c : Cid) (h₀ : Head) (hs : List Head) (P : Cid → List Page) (t : Source) → lookup c (sources-at m hs P) ≡ some t
+pub lookup-head : (m : ℕ) (c : Cid) (h₀ : Head) (hs : List Head) (P : Cid → List Page) (t : Source) → lookup c (sources-at m hs P) ≡ some t
     → sourceOf P (getD hs (prefix (λ h. not (heads-of m c h)) hs) h₀) ≡ t
 unfolding lookup sources-at prefix
 lookup-head m c h₀ [] P t e = missing {C = sourceOf P (getD [] 0 h₀) ≡ t} t e refl

@@ -159,6 +159,7 @@ pub record Dropped (m : ℕ) (c : Cid) (d : Discovery) (S N P : List (List ℕ))
   pub kept : Kept e S′ N′ P′ U′
   pub view : discoveredOf e S′ N′ P′ U′ ≡ without m c (discoveredOf d S N P U)
   pub gone : any (heads-of m c) (headsOf e S′ N′) ≡ false
+  pub shrunk : any (heads-of m c) (headsOf d S N) ≡ true → e .«source_count» < d .«source_count»
 
 module _ (m : ℕ) (c : Cid) (d : Discovery) (S N P : List (List ℕ)) (U : List ℕ) (k : Kept d S N P U) where
   place-heads : prefix (λ h. not (heads-of m c h)) (headsOf d S N) ≡ prefix (λ r. not (owned m c r)) (take (d .«source_count») S)
@@ -185,6 +186,7 @@ module _ (m : ℕ) (c : Cid) (d : Discovery) (S N P : List (List ℕ)) (U : List
         kept = k;
         view = sym (ap (λ (gs : List Head). viewOf gs ls) x) ∙ sym (ap (λ (ks : List Leaf). viewOf (others m c hs) ks) y) ∙ view-dropped m c hs ls;
         gone = a;
+        shrunk = λ b. clash b a;
       }
 
   module _ (small : m < 2) (S′ N′ P′ : List (List ℕ)) (U′ : List ℕ) (i pc used size : ℕ)
@@ -224,4 +226,5 @@ module _ (m : ℕ) (c : Cid) (d : Discovery) (S N P : List (List ℕ)) (U : List
           };
           view = ap (λ (gs : List Head). viewOf gs (leavesOf after P′ U′)) heads-after ∙ ap (viewOf (others m c hs)) leaves-after ∙ view-dropped m c hs ls;
           gone = rw heads-after (any-others-gone m c hs);
+          shrunk = λ b. omega (arith, inside);
         }

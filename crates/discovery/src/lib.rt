@@ -13,8 +13,9 @@ ghost use Rattle.table.specs.Place.{prefix};
 ghost use Rattle.discovery.specs.Store.{heads-of};
 ghost use Rattle.discovery.specs.Rows.{owned};
 ghost use mathlib.Core.Option.{some};
-ghost use Rattle.discovery.specs.Discovery.{Source, lookup, begun, extended, extend, list, noting, arrived};
+ghost use Rattle.discovery.specs.Discovery.{Source, lookup, begun, extended, extend, list, noting, taken};
 ghost use Rattle.discovery.specs.Moves.{with-source};
+ghost use Rattle.discovery.specs.Arrive.{Took, Arrival};
 ghost use Rattle.discovery.specs.View.{headsOf, leavesOf, discoveredOf, Kept, Holds, Dropped};
 use crate::pages::add_page;
 use crate::pages::cut_pages;
@@ -44,6 +45,12 @@ pub enum PageAnswer {
     Listed,
     // Number 13: 64 pages are held.
     PagesFull,
+}
+
+// The state after a page's arrival, and its answer.
+pub struct PageArrived {
+    pub discovery: Discovery,
+    pub answer: PageAnswer,
 }
 
 impl Discovery {
@@ -176,5 +183,178 @@ impl Discovery {
         turn_source(&mut *sources, &mut *names, count, at);
         turn_pages(&mut *pages, page_count, cid);
         d
+    }
+
+    // A page of a source without a partial entry.
+    fn take_first(
+        self,
+        sources: &mut [[u64; 6]; 64],
+        names: &mut [[u8; 63]; 64],
+        pages: &mut [[u64; 5]; 64],
+        universes: &mut [u16],
+        reading: u64,
+        cid: Cid,
+        page: u8,
+        last_page: u8,
+        name: &[u8],
+        list: &[u16],
+    ) -> PageArrived
+        requires { ⌜ Kept self (now sources) (now names) (now pages) (now universes) × (self .«page_count» < 64) × (length (now name) ≤ 63) × (length (now list) ≤ 512) × (any (heads-of 0 cid) (headsOf self (now sources) (now names)) ≡ false) ⌝ }
+        ensures { λ r. ⌜ Took r (now (sources .exit)) (now (names .exit)) (now (pages .exit)) (now (universes .exit)) (taken reading (record { cid = cid; name = now (name .entry); page = page; last-page = «last_page»; universes = now (list .entry) }) (discoveredOf self (now (sources .entry)) (now (names .entry)) (now (pages .entry)) (now (universes .entry)))) ⌝ }
+    {
+        if page == 0 {
+            if last_page == 0 {
+                let d = self.drop_source(
+                    &mut *sources,
+                    &mut *names,
+                    &mut *pages,
+                    &mut *universes,
+                    1,
+                    cid,
+                );
+                let e = d.add_source(
+                    &mut *sources,
+                    &mut *names,
+                    &mut *pages,
+                    &mut *universes,
+                    reading,
+                    1,
+                    cid,
+                    page,
+                    last_page,
+                    name,
+                    list,
+                );
+                return PageArrived {
+                    discovery: e,
+                    answer: PageAnswer::Listed,
+                };
+            }
+        }
+        let d = self.add_source(
+            &mut *sources,
+            &mut *names,
+            &mut *pages,
+            &mut *universes,
+            reading,
+            0,
+            cid,
+            page,
+            last_page,
+            name,
+            list,
+        );
+        PageArrived {
+            discovery: d,
+            answer: PageAnswer::Taken,
+        }
+    }
+
+    // A further page of the partial source at place at.
+    fn take_next(
+        self,
+        sources: &mut [[u64; 6]; 64],
+        names: &mut [[u8; 63]; 64],
+        pages: &mut [[u64; 5]; 64],
+        universes: &mut [u16],
+        reading: u64,
+        at: usize,
+        cid: Cid,
+        page: u8,
+        last_page: u8,
+        name: &[u8],
+        list: &[u16],
+    ) -> PageArrived
+        requires { ⌜ Kept self (now sources) (now names) (now pages) (now universes) × (self .«page_count» < 64) × (length (now name) ≤ 63) × (length (now list) ≤ 512) × (at ≡ prefix (λ row. not (owned 0 cid row)) (take (self .«source_count») (now sources))) × (at < self .«source_count») ⌝ }
+        ensures { λ r. ⌜ Took r (now (sources .exit)) (now (names .exit)) (now (pages .exit)) (now (universes .exit)) (taken reading (record { cid = cid; name = now (name .entry); page = page; last-page = «last_page»; universes = now (list .entry) }) (discoveredOf self (now (sources .entry)) (now (names .entry)) (now (pages .entry)) (now (universes .entry)))) ⌝ }
+    {
+        let row = sources[at];
+        let first_last_page = row[3];
+        let d = self.extend_source(
+            &mut *sources,
+            &*names,
+            &mut *pages,
+            &mut *universes,
+            reading,
+            at,
+            cid,
+            page,
+            last_page,
+            name,
+            list,
+        );
+        let count = d.page_count;
+        if has_all_pages(&*pages, count, cid, first_last_page) {
+            let e = d.list_source(
+                &mut *sources,
+                &mut *names,
+                &mut *pages,
+                &mut *universes,
+                cid,
+            );
+            return PageArrived {
+                discovery: e,
+                answer: PageAnswer::Listed,
+            };
+        }
+        PageArrived {
+            discovery: d,
+            answer: PageAnswer::Taken,
+        }
+    }
+
+    // A page arrives at this reading.
+    pub fn page_arrives(
+        self,
+        sources: &mut [[u64; 6]; 64],
+        names: &mut [[u8; 63]; 64],
+        pages: &mut [[u64; 5]; 64],
+        universes: &mut [u16],
+        reading: u64,
+        cid: Cid,
+        page: u8,
+        last_page: u8,
+        name: &[u8],
+        list: &[u16],
+    ) -> PageArrived
+        requires { ⌜ Kept self (now sources) (now names) (now pages) (now universes) × (length (now name) ≤ 63) × (length (now list) ≤ 512) ⌝ }
+        ensures { λ r. ⌜ Arrival self (now (sources .entry)) (now (names .entry)) (now (pages .entry)) (now (universes .entry)) reading (record { cid = cid; name = now (name .entry); page = page; last-page = «last_page»; universes = now (list .entry) }) r (now (sources .exit)) (now (names .exit)) (now (pages .exit)) (now (universes .exit)) ⌝ }
+    {
+        let page_count = self.page_count;
+        if 64 <= page_count {
+            return PageArrived {
+                discovery: self,
+                answer: PageAnswer::PagesFull,
+            };
+        }
+        let count = self.source_count;
+        let at = find_source(&*sources, count, 0, cid);
+        if count <= at {
+            return self.take_first(
+                &mut *sources,
+                &mut *names,
+                &mut *pages,
+                &mut *universes,
+                reading,
+                cid,
+                page,
+                last_page,
+                name,
+                list,
+            );
+        }
+        self.take_next(
+            &mut *sources,
+            &mut *names,
+            &mut *pages,
+            &mut *universes,
+            reading,
+            at,
+            cid,
+            page,
+            last_page,
+            name,
+            list,
+        )
     }
 }
