@@ -16,12 +16,12 @@ use Rattle.rules.specs.declared.Cid.{Cid}
 use Rattle.rules.specs.Cid.{same, same-path}
 use Rattle.rules.specs.Age.{aged}
 use Rattle.discovery.specs.declared.Discovery.{Discovery}
-use Rattle.discovery.specs.Discovery.{Page, Source, Discovered, drop-source, current, swept, ended, Once}
+use Rattle.discovery.specs.Discovery.{Page, Source, Discovered, drop-source, current, swept, ended, Once, nothing-known, page-count}
 use Rattle.discovery.specs.Kept.{dropped-none}
 use Rattle.discovery.specs.Store.{Head, Leaf, heads-of, pages-at, sourceOf, sources-at, viewOf, Marked, owner-self, any-sources, prefix-none}
 use Rattle.discovery.specs.Leaves.{cut-leaf}
 use Rattle.discovery.specs.Moves.{without, view-cut, sound-cut}
-use Rattle.discovery.specs.Rows.{cidAt, headOf, heads, leaves, Packs}
+use Rattle.discovery.specs.Rows.{cidAt, headOf, heads, leaves, total, Packs}
 use Rattle.discovery.specs.View.{headsOf, leavesOf, discoveredOf, Kept, Holds, Dropped, heads-getD, length-headsOf}
 
 -- ── a universe ends ──
@@ -184,3 +184,23 @@ module _ (time now : ℕ) where
           let p = x 0 (k .sound .ordered .partial-once) in
           let l = x 1 (k .sound .ordered .listed-once) in
           ap (swept time now) (g .view) ∙ (λ i. record { partial = p i; listed = l i })
+
+-- ── nothing is known ──
+pub fresh : (S N P : List (List ℕ)) (U : List ℕ) → length S ≡ 64 → length N ≡ 64 → length P ≡ 64 → 32768 ≤ length U
+    → Holds (record { «source_count» = 0; «page_count» = 0; used = 0 }) S N P U nothing-known
+unfolding discoveredOf viewOf headsOf leavesOf heads leaves sources-at total page-count
+fresh S N P U s n p u = record {
+  kept = record {
+    source-rows = s;
+    name-rows = n;
+    within = omega arith;
+    packing = record { rows = p; within = omega arith; few = tt; pool = u };
+    filled = refl;
+    sound = record {
+      marked = tt;
+      housed = tt;
+      ordered = record { partial-once = tt; listed-once = tt; partial-proper = tt; listed-proper = tt; fit = omega arith };
+    };
+  };
+  seen = refl;
+}

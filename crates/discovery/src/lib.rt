@@ -5,15 +5,15 @@ mod rows;
 
 ghost use mathlib.Core.Path.{_≡_};
 ghost use mathlib.Core.Bool.{true, false, not};
-ghost use mathlib.Core.List.{[], _∷_};
-ghost use Prim.Native.Nat.{_+_, _≤_, _<_};
+ghost use mathlib.Core.List.{List, [], _∷_};
+ghost use Prim.Native.Nat.{ℕ, _+_, _≤_, _<_};
 ghost use lib.ListN.{length, take};
 ghost use Rattle.table.specs.Table.{any};
 ghost use Rattle.table.specs.Place.{prefix};
 ghost use Rattle.discovery.specs.Store.{heads-of};
 ghost use Rattle.discovery.specs.Rows.{owned};
 ghost use mathlib.Core.Option.{some};
-ghost use Rattle.discovery.specs.Discovery.{Source, lookup, begun, extended, extend, list, noting, taken};
+ghost use Rattle.discovery.specs.Discovery.{Source, lookup, begun, extended, extend, list, noting, taken, ended, swept, nothing-known};
 ghost use Rattle.discovery.specs.Moves.{with-source};
 ghost use Rattle.discovery.specs.Arrive.{Took, Arrival};
 ghost use Rattle.discovery.specs.View.{headsOf, leavesOf, discoveredOf, Kept, Holds, Dropped};
@@ -21,6 +21,7 @@ use crate::pages::add_page;
 use crate::pages::cut_pages;
 use crate::pages::drop_pages;
 use crate::pool::write_at;
+use crate::rows::find_expired;
 use crate::rows::find_source;
 use crate::rows::has_all_pages;
 use crate::rows::name_row;
@@ -356,5 +357,78 @@ impl Discovery {
             name,
             list,
         )
+    }
+
+    // Nothing is known, whatever the lent memory holds.
+    pub fn new() -> Discovery
+        ensures { λ r. ⌜ ((sources names pages : List (List ℕ)) (universes : List ℕ) → length sources ≡ 64 → length names ≡ 64 → length pages ≡ 64 → 32768 ≤ length universes → Holds r sources names pages universes nothing-known) ⌝ }
+    {
+        Discovery {
+            source_count: 0,
+            page_count: 0,
+            used: 0,
+        }
+    }
+
+    // All sources are forgotten.
+    pub fn clear(self) -> Discovery
+        ensures { λ r. ⌜ ((sources names pages : List (List ℕ)) (universes : List ℕ) → length sources ≡ 64 → length names ≡ 64 → length pages ≡ 64 → 32768 ≤ length universes → Holds r sources names pages universes nothing-known) ⌝ }
+    {
+        Discovery::new()
+    }
+
+    // A universe ends: it goes from the listed source's pages.
+    pub fn terminate_universe(
+        self,
+        sources: &[[u64; 6]; 64],
+        names: &[[u8; 63]; 64],
+        pages: &mut [[u64; 5]; 64],
+        universes: &mut [u16],
+        cid: Cid,
+        universe: u16,
+    ) -> Discovery
+        requires { ⌜ Kept self (now sources) (now names) (now pages) (now universes) ⌝ }
+        ensures { λ r. ⌜ Holds r (now (sources .entry)) (now (names .entry)) (now (pages .exit)) (now (universes .exit)) (ended cid universe (discoveredOf self (now (sources .entry)) (now (names .entry)) (now (pages .entry)) (now (universes .entry)))) ⌝ }
+    {
+        let used = cut_pages(&mut *pages, &mut *universes, self.page_count, cid, universe);
+        Discovery {
+            source_count: self.source_count,
+            page_count: self.page_count,
+            used: used,
+        }
+    }
+
+    // The sources of this age or older go, partial and listed.
+    pub fn remove_expired_sources(
+        self,
+        sources: &mut [[u64; 6]; 64],
+        names: &mut [[u8; 63]; 64],
+        pages: &mut [[u64; 5]; 64],
+        universes: &mut [u16],
+        time: u64,
+        reading: u64,
+    ) -> Discovery
+        requires { ⌜ Kept self (now sources) (now names) (now pages) (now universes) ⌝ }
+        ensures { λ r. ⌜ Holds r (now (sources .exit)) (now (names .exit)) (now (pages .exit)) (now (universes .exit)) (swept time reading (discoveredOf self (now (sources .entry)) (now (names .entry)) (now (pages .entry)) (now (universes .entry)))) ⌝ }
+    {
+        let mut d = self;
+        let mut at = find_expired(&*sources, d.source_count, time, reading);
+        while at < d.source_count {
+            let row = sources[at];
+            let cid = Cid {
+                hi: row[1],
+                lo: row[2],
+            };
+            d = d.drop_source(
+                &mut *sources,
+                &mut *names,
+                &mut *pages,
+                &mut *universes,
+                row[0],
+                cid,
+            );
+            at = find_expired(&*sources, d.source_count, time, reading);
+        }
+        d
     }
 }

@@ -8,8 +8,10 @@ ghost use lib.ListN.{length, take, getD};
 ghost use Rattle.table.specs.Place.{prefix, insertAt, removeAt};
 ghost use Rattle.discovery.specs.Store.{owner};
 ghost use Rattle.discovery.specs.Calls.{listed-row};
+ghost use Rattle.discovery.specs.Sweep.{old-row};
 ghost use Rattle.discovery.specs.Rows.{owned, larger, total, Few, in-turn, turned-row};
 use rules::Cid;
+use rules::has_aged;
 
 // The owner is this one.
 pub fn is_owner(mark: u64, cid: Cid, kind: u64, source: Cid) -> bool
@@ -50,6 +52,22 @@ pub fn find_source(sources: &[[u64; 6]; 64], count: usize, mark: u64, cid: Cid) 
     while i < count {
         let row = sources[i];
         if is_source_of(row, mark, cid) {
+            return i;
+        }
+        i += 1;
+    }
+    i
+}
+
+// Where the first source of this age stands; count if there is none.
+pub fn find_expired(sources: &[[u64; 6]; 64], count: usize, time: u64, reading: u64) -> usize
+    requires { ⌜ (count ≤ 64) × (length (now sources) ≡ 64) ⌝ }
+    ensures { λ r. ⌜ r ≡ prefix (λ row. not (old-row time reading row)) (take count (now (sources .entry))) ⌝ }
+{
+    let mut i = 0;
+    while i < count {
+        let row = sources[i];
+        if has_aged(time, reading, row[4]) {
             return i;
         }
         i += 1;
