@@ -12,3 +12,4 @@ pub mod Steps
 pub mod Calls
 pub mod Arrive
 pub mod Sweep
+pub mod Reads

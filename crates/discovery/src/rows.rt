@@ -8,7 +8,9 @@ ghost use lib.ListN.{length, take, getD};
 ghost use Rattle.table.specs.Place.{prefix, insertAt, removeAt};
 ghost use Rattle.discovery.specs.Store.{owner};
 ghost use Rattle.discovery.specs.Calls.{listed-row};
+ghost use Rattle.discovery.specs.Reads.{nth, marked-row};
 ghost use Rattle.discovery.specs.Sweep.{old-row};
+ghost use Rattle.table.specs.Table.{keep};
 ghost use Rattle.discovery.specs.Rows.{owned, larger, total, Few, in-turn, turned-row};
 use rules::Cid;
 use rules::has_aged;
@@ -231,4 +233,88 @@ pub fn has_all_pages(pages: &[[u64; 5]; 64], count: usize, cid: Cid, last_page: 
         }
     }
     last_page < next
+}
+
+pub fn is_marked(row: [u64; 6], mark: u64) -> bool
+    ensures { λ r. ⌜ r ≡ marked-row mark row ⌝ }
+{
+    row[0] == mark
+}
+
+// How many sources have the mark.
+pub fn count_sources(sources: &[[u64; 6]; 64], count: usize, mark: u64) -> usize
+    requires { ⌜ (count ≤ 64) × (length (now sources) ≡ 64) ⌝ }
+    ensures { λ r. ⌜ r ≡ length (keep (marked-row mark) (take count (now (sources .entry)))) ⌝ }
+{
+    let mut n: usize = 0;
+    let mut i = 0;
+    while i < count {
+        let row = sources[i];
+        i += 1;
+        if is_marked(row, mark) {
+            n += 1;
+        }
+    }
+    n
+}
+
+// Where the k-th source of the mark stands, from 0; count if there are not so many.
+pub fn nth_source(sources: &[[u64; 6]; 64], count: usize, mark: u64, k: usize) -> usize
+    requires { ⌜ (count ≤ 64) × (length (now sources) ≡ 64) ⌝ }
+    ensures { λ r. ⌜ r ≡ nth (marked-row mark) k (take count (now (sources .entry))) ⌝ }
+{
+    let mut left = k;
+    let mut i = 0;
+    while i < count {
+        let row = sources[i];
+        if is_marked(row, mark) {
+            if left == 0 {
+                return i;
+            }
+            left -= 1;
+            i += 1;
+        } else {
+            i += 1;
+        }
+    }
+    i
+}
+
+// How many pages the owner has.
+pub fn count_pages(pages: &[[u64; 5]; 64], count: usize, mark: u64, cid: Cid) -> usize
+    requires { ⌜ (count ≤ 64) × (length (now pages) ≡ 64) ⌝ }
+    ensures { λ r. ⌜ r ≡ length (keep (owned mark cid) (take count (now (pages .entry)))) ⌝ }
+{
+    let mut n: usize = 0;
+    let mut i = 0;
+    while i < count {
+        let row = pages[i];
+        i += 1;
+        if is_page_of(row, mark, cid) {
+            n += 1;
+        }
+    }
+    n
+}
+
+// Where the owner's k-th page stands, from 0; count if there are not so many.
+pub fn nth_page(pages: &[[u64; 5]; 64], count: usize, mark: u64, cid: Cid, k: usize) -> usize
+    requires { ⌜ (count ≤ 64) × (length (now pages) ≡ 64) ⌝ }
+    ensures { λ r. ⌜ r ≡ nth (owned mark cid) k (take count (now (pages .entry))) ⌝ }
+{
+    let mut left = k;
+    let mut i = 0;
+    while i < count {
+        let row = pages[i];
+        if is_page_of(row, mark, cid) {
+            if left == 0 {
+                return i;
+            }
+            left -= 1;
+            i += 1;
+        } else {
+            i += 1;
+        }
+    }
+    i
 }
