@@ -7,7 +7,7 @@ use Prim.Native.Nat.{ℕ, zero, suc, _+_, _-_, _≤_, _<_}
 use native.Mathlib.Omega.{arith}
 use lib.Dec.{eqb}
 use lib.ListN.{length, take, drop, getD, length-map, length-take}
-use lib.Seq.{getD-take, drop-drop}
+use lib.Seq.{getD-take, drop-drop, take-take}
 use Rattle.table.specs.Cases.{split, clash}
 use Rattle.table.specs.Table.{keep}
 use Rattle.table.specs.Place.{getD-map}
@@ -15,10 +15,10 @@ use Rattle.table.specs.Arrays.{next}
 use Rattle.rules.specs.declared.Cid.{Cid}
 use Rattle.discovery.specs.declared.Discovery.{Discovery}
 use Rattle.discovery.specs.Discovery.{Page, Source}
-use Rattle.discovery.specs.Store.{Head, Leaf, held-by, pages-at, sourceOf, sources-at}
+use Rattle.discovery.specs.Store.{Head, Leaf, held-by, pages-at, sourceOf, sources-at, viewOf}
 use Rattle.discovery.specs.Rows.{cidAt, owned, headOf, leafAt, leafWith, heads, leaves, total, amount}
 use Rattle.discovery.specs.Steps.{leaves-drop}
-use Rattle.discovery.specs.View.{headsOf, leavesOf, heads-getD}
+use Rattle.discovery.specs.View.{headsOf, leavesOf, discoveredOf}
 
 -- how many entries stand before the k-th that passes the test; all of them where there are not so many
 unfoldable pub nth : {A : Type 0} → (A → Bool) → ℕ → List A → ℕ
@@ -133,3 +133,69 @@ pages-nth m c (suc k) (r ∷ rs) us p₀ h =
     let g = pages-nth m c (suc k) rs (drop (amount r) us) p₀ (rw e at h) in
     let q = g .0 in
     rw e (omega arith, g .1 ∙ ap (λ (v : List ℕ). leafAt (getD rs (nth (owned m c) (suc k) rs) []) v .page) (drop-drop (total (take (nth (owned m c) (suc k) rs) rs)) (amount r) us)))
+
+-- ── read out of the state ──
+module _ (d : Discovery) (S : List (List ℕ)) where
+  pub partial-total : (N P : List (List ℕ)) (U : List ℕ) → length (discoveredOf d S N P U .partial) ≡ length (keep (marked-row 0) (take (d .«source_count») S))
+  unfolding discoveredOf viewOf headsOf
+  partial-total N P U = sources-count 0 (take (d .«source_count») S) (take (d .«source_count») N) (pages-at 0 (leavesOf d P U))
+
+  pub listed-total : (N P : List (List ℕ)) (U : List ℕ) → length (discoveredOf d S N P U .listed) ≡ length (keep (marked-row 1) (take (d .«source_count») S))
+  unfolding discoveredOf viewOf headsOf
+  listed-total N P U = sources-count 1 (take (d .«source_count») S) (take (d .«source_count») N) (pages-at 1 (leavesOf d P U))
+
+-- the source of a row, with its pages
+unfoldable pub source-of-row : ℕ → Discovery → List (List ℕ) → List (List ℕ) → List (List ℕ) → List ℕ → ℕ → Source
+source-of-row m d S N P U r = sourceOf (pages-at m (leavesOf d P U)) (headOf (getD S r []) (getD N r []))
+
+-- the page of a row: its number, and its universes from where those of the rows before it end
+unfoldable pub page-of-row : List (List ℕ) → List ℕ → ℕ → Page
+page-of-row P U r = record { number = getD (getD P r []) 3 0; universes = take (getD (getD P r []) 4 0) (drop (total (take r P)) U) }
+
+module _ (m : ℕ) (d : Discovery) (S N P : List (List ℕ)) (U : List ℕ) (k : ℕ) (s₀ : Source) (few : d .«source_count» ≤ 64) (rows : length S ≡ 64) where
+  pub source-placed : k < length (sources-at m (headsOf d S N) (pages-at m (leavesOf d P U)))
+      → (nth (marked-row m) k (take (d .«source_count») S) < d .«source_count»)
+      × (getD (sources-at m (headsOf d S N) (pages-at m (leavesOf d P U))) k s₀ ≡ source-of-row m d S N P U (nth (marked-row m) k (take (d .«source_count») S)))
+  unfolding headsOf source-of-row
+  source-placed h =
+      let n = d .«source_count» in
+      let Q = pages-at m (leavesOf d P U) in
+      let g = sources-nth m k (take n S) (take n N) Q s₀ h in
+      let r = nth (marked-row m) k (take n S) in
+      let b : r < length (take n S) = g .0 in
+      let i : r < n = omega (arith, length-take n S) in (
+        i,
+        g .1
+            ∙ ap (λ (x : List ℕ). sourceOf Q (headOf x (getD (take n N) r []))) (getD-take n S r [] i)
+            ∙ ap (λ (x : List ℕ). sourceOf Q (headOf (getD S r []) x)) (getD-take n N r [] i),
+      )
+
+  pub source-at-place : (r : ℕ) → r ≡ nth (marked-row m) k (take (d .«source_count») S) → k < length (sources-at m (headsOf d S N) (pages-at m (leavesOf d P U)))
+      → (r < d .«source_count») × (getD (sources-at m (headsOf d S N) (pages-at m (leavesOf d P U))) k s₀ ≡ source-of-row m d S N P U r)
+  source-at-place r e h = rw e (source-placed h)
+
+module _ (m : ℕ) (c : Cid) (d : Discovery) (P : List (List ℕ)) (U : List ℕ) (k : ℕ) (p₀ : Page) (few : d .«page_count» ≤ 64) (rows : length P ≡ 64) where
+  pub page-placed : k < length (pages-at m (leavesOf d P U) c)
+      → (nth (owned m c) k (take (d .«page_count») P) < d .«page_count»)
+      × (getD (pages-at m (leavesOf d P U) c) k p₀ ≡ page-of-row P U (nth (owned m c) k (take (d .«page_count») P)))
+  unfolding leavesOf page-of-row
+  page-placed h =
+      let n = d .«page_count» in
+      let g = pages-nth m c k (take n P) U p₀ h in
+      let r = nth (owned m c) k (take n P) in
+      let b : r < length (take n P) = g .0 in
+      let i : r < n = omega (arith, length-take n P) in
+      let j : r ≤ n = omega arith in (
+        i,
+        g .1
+            ∙ ap (λ (x : List ℕ). leafAt x (drop (total (take r (take n P))) U) .page) (getD-take n P r [] i)
+            ∙ ap (λ (x : List (List ℕ)). leafAt (getD P r []) (drop (total x) U) .page) (take-take r n P j),
+      )
+
+  pub page-at-place : (r : ℕ) → r ≡ nth (owned m c) k (take (d .«page_count») P) → k < length (pages-at m (leavesOf d P U) c)
+      → (r < d .«page_count») × (getD (pages-at m (leavesOf d P U) c) k p₀ ≡ page-of-row P U r)
+  page-at-place r e h = rw e (page-placed h)
+
+pub page-number : (m : ℕ) (c : Cid) (d : Discovery) (P : List (List ℕ)) (U : List ℕ) → length (pages-at m (leavesOf d P U) c) ≡ length (keep (owned m c) (take (d .«page_count») P))
+unfolding leavesOf
+page-number m c d P U = pages-count m c (take (d .«page_count») P) U

@@ -61,11 +61,12 @@ loop-again c =
     let a = v .pages .now in
     let t : owned (v .mark) (v .cid) (getD a (w .i) []) ≡ true = sym (c .before .before .is-page-of .ensures) ∙ c .before .if1 .taken in
     let z : 1 ≤ w .left = search needs in
-    let e : suc (w .left - 1) ≡ w .left = omega arith in
-    (omega arith,
-    nth-past (owned (v .mark) (v .cid)) a (v .count) (w .i) [] (omega arith) (omega arith) (w .left - 1) t
-    ∙ ap (λ (j : ℕ). w .i + nth (owned (v .mark) (v .cid)) j (drop (w .i) (take (v .count) a))) e
-    ∙ w .inv .1)
+    let e : suc (w .left - 1) ≡ w .left = omega arith in (
+      omega arith,
+      nth-past (owned (v .mark) (v .cid)) a (v .count) (w .i) [] (omega arith) (omega arith) (w .left - 1) t
+          ∙ ap (λ (j : ℕ). w .i + nth (owned (v .mark) (v .cid)) j (drop (w .i) (take (v .count) a))) e
+          ∙ w .inv .1,
+    )
 
 add-i-2 : tie.Need-add-i-2 Inv-loop μ-loop
 add-i-2 c = search needs
