@@ -1,17 +1,16 @@
 -- A page's arrival, case by case, against its definition.
 -- Assumes nothing.
 use mathlib.Core.Path.{_≡_, refl, sym, ap, _∙_}
-use mathlib.Core.Logic.{_≢_}
-use mathlib.Core.Bool.{Bool, true, false, not, cond, _&&_}
-use mathlib.Core.Option.{Option, none, some}
-use mathlib.Core.List.{List, [], _∷_, _++_, map}
-use Prim.Native.Nat.{ℕ, zero, suc, _+_, _-_, _≤_, _<_}
+use mathlib.Core.Bool.{Bool, true, false, not, _&&_}
+use mathlib.Core.Option.{none, some}
+use mathlib.Core.List.{List, [], _∷_}
+use Prim.Native.Nat.{ℕ, zero, suc, _+_, _≤_, _<_}
 use native.Mathlib.Omega.{arith}
-use lib.Dec.{eqb, ltb, leb}
+use lib.Dec.{eqb, leb}
 use lib.ListN.{length, take, drop, getD, length-take}
 use lib.Seq.{getD-take}
-use borrow.Author.Tests.{eq-eqb, ne-eqb, le-leb, lt-leb}
-use Rattle.table.specs.Cases.{split, clash, found, missing}
+use borrow.Author.Tests.{le-leb, lt-leb}
+use Rattle.table.specs.Cases.{split, clash, missing}
 use Rattle.table.specs.Table.{keep, any}
 use Rattle.table.specs.Place.{prefix}
 use Rattle.rules.specs.declared.Cid.{Cid}
@@ -20,38 +19,14 @@ use Rattle.discovery.specs.declared.Discovery.{Discovery}
 use Rattle.discovery.specs.declared.PageArrived.{PageArrived}
 use Rattle.discovery.specs.declared.PageAnswer.{PageAnswer}
 use Rattle.discovery.specs.declared.PageAnswer.the-variants.{Taken, Listed, PagesFull}
-use Rattle.discovery.specs.Discovery.{
-  Page,
-  Source,
-  Discovered,
-  Announcement,
-  lookup,
-  drop-source,
-  relisted,
-  updated,
-  numbered,
-  complete,
-  extended,
-  begun,
-  begin,
-  extend,
-  list,
-  noted,
-  noting,
-  told,
-  taken,
-  arrived,
-  page-count,
-  pages-held,
-  capacity,
-}
-use Rattle.discovery.specs.Laws.{lookup-none, none-lookup, lookup-cid, partial-noting, partial-at, instead}
+use Rattle.discovery.specs.Discovery.{Source, Discovered, Announcement, lookup, drop-source, relisted, updated, numbered, complete, extended, begun, extend, list, noted, noting, taken, arrived, pages-held, capacity}
+use Rattle.discovery.specs.Laws.{none-lookup, lookup-cid, partial-noting}
 use Rattle.discovery.specs.Kept.{dropped-none, count-keep}
-use Rattle.discovery.specs.Store.{Head, Leaf, heads-of, held-by, pages-at, sourceOf, sources-at, viewOf, any-sources, lookup-pages}
+use Rattle.discovery.specs.Store.{Head, heads-of, pages-at, viewOf, lookup-pages}
 use Rattle.discovery.specs.Moves.{without, with-source, lookup-head}
-use Rattle.discovery.specs.Rows.{cidAt, owned, headOf, leafAt, heads, leaves, amount, in-turn}
+use Rattle.discovery.specs.Rows.{owned, headOf, heads, leaves, amount, in-turn}
 use Rattle.discovery.specs.View.{headsOf, leavesOf, discoveredOf, Kept, Holds, Dropped, kept-held, heads-prefix, heads-getD}
-use Rattle.discovery.specs.Calls.{head-source, headless}
+use Rattle.discovery.specs.Calls.{headless}
 
 -- what a page's arrival leaves and answers
 pub record Took (r : PageArrived) (S N P : List (List ℕ)) (U : List ℕ) (e : Discovered × PageAnswer) : Type 0 where

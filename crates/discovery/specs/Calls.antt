@@ -1,98 +1,31 @@
 -- What each step of a call makes of the sources seen: a source begun, extended, listed.
 -- Assumes nothing.
 use mathlib.Core.Path.{_≡_, refl, sym, ap, _∙_}
-use mathlib.Core.Bool.{Bool, true, false, not, cond, _&&_}
-use mathlib.Core.Option.{Option, none, some}
+use mathlib.Core.Bool.{true, false, not}
+use mathlib.Core.Option.{none, some}
 use mathlib.Core.List.{List, [], _∷_, _++_, map}
-use Prim.Native.Nat.{ℕ, zero, suc, _+_, _-_, _≤_, _<_}
+use Prim.Native.Nat.{ℕ, _+_, _≤_, _<_}
 use native.Mathlib.Omega.{arith}
-use native.Mathlib.Numerals.{add-one}
-use lib.Dec.{eqb, ltb, leb}
-use lib.ListN.{length, take, drop, getD, set, length-take, length-drop, length-append, length-set}
-use lib.Seq.{take-take, take-all, take-suc-set, take-set-lt, getD-take}
+use lib.Dec.{ltb}
+use lib.ListN.{length, take, drop, getD, set, length-take, length-set}
+use lib.Seq.{take-all, take-set-lt, getD-take}
 use borrow.Author.Tests.{ltb-true, ltb-false}
 use Rattle.table.specs.Cases.{split, clash, found}
-use Rattle.table.specs.Table.{keep, any}
+use Rattle.table.specs.Table.{any}
 use Rattle.table.specs.Place.{prefix, insertAt, removeAt, length-removeAt}
 use Rattle.rules.specs.declared.Cid.{Cid}
 use Rattle.rules.specs.Cid.{same}
 use Rattle.discovery.specs.declared.Discovery.{Discovery}
-use Rattle.discovery.specs.Discovery.{
-  Page,
-  Source,
-  Discovered,
-  Announcement,
-  lookup,
-  drop-source,
-  relisted,
-  updated,
-  sorted,
-  numbered,
-  complete,
-  pageOf,
-  extended,
-  begun,
-  begin,
-  extend,
-  list,
-  noted,
-  noting,
-  page-count,
-  pages-held,
-  capacity,
-  Once,
-  Rising,
-  Ordered,
-  Proper,
-  All-proper,
-}
+use Rattle.discovery.specs.Discovery.{Page, Source, Discovered, Announcement, lookup, drop-source, relisted, updated, pageOf, extended, begun, extend, list, noting, page-count, pages-held, capacity, Rising, Ordered}
 use Rattle.discovery.specs.Laws.{lookup-none, none-lookup, lookup-cid}
-use Rattle.discovery.specs.Kept.{Fitting, proper-begun, proper-extended, proper-lookup, dropped-none, sorted-added, ordered-noting, length-extended, lookup-extended, pages-of, count-drop, count-append, once-drop, once-append, all-keep, all-append}
-use Rattle.discovery.specs.Store.{Head, Leaf, heads-of, held-by, pages-at, sourceOf, sources-at, viewOf, Sound, any-sources, renewed, keep-single}
+use Rattle.discovery.specs.Kept.{Fitting, proper-begun, proper-extended, proper-lookup, sorted-added, ordered-noting, length-extended, lookup-extended, pages-of, count-drop, count-append, once-drop, once-append, all-keep, all-append}
+use Rattle.discovery.specs.Store.{Head, Leaf, heads-of, pages-at, sources-at, viewOf, any-sources, renewed, keep-single}
 use Rattle.discovery.specs.Leaves.{behind, turned}
-use Rattle.discovery.specs.Moves.{without, with-source, leafOf, view-with, sound-with, others, listed-head, head-of, view-turned, sound-turned, heads-turned, grown, view-extended, sound-extended}
+use Rattle.discovery.specs.Moves.{with-source, leafOf, view-with, sound-with, others, listed-head, view-turned, sound-turned, heads-turned, grown, view-extended, sound-extended}
 use Rattle.discovery.specs.Pool.{pushed}
-use Rattle.discovery.specs.Rows.{
-  cidAt,
-  owned,
-  headOf,
-  leafAt,
-  leafWith,
-  heads,
-  leaves,
-  total,
-  amount,
-  Few,
-  Packing,
-  Packs,
-  larger,
-  turned-row,
-  page-pushed,
-  total-pushed,
-  few-pushed,
-  total-few,
-}
+use Rattle.discovery.specs.Rows.{cidAt, owned, headOf, leafAt, leafWith, heads, leaves, total, amount, Few, Packs, turned-row, page-pushed, total-pushed, few-pushed}
 use Rattle.discovery.specs.Steps.{pool-room}
-use Rattle.discovery.specs.View.{
-  headsOf,
-  leavesOf,
-  discoveredOf,
-  Kept,
-  Holds,
-  Dropped,
-  heads-append,
-  length-headsOf,
-  length-leavesOf,
-  kept-fewer,
-  absent-heads,
-  heads-prefix,
-  heads-removeAt,
-  heads-set,
-  heads-getD,
-  kept-held,
-  single-sound,
-  length-heads,
-}
+use Rattle.discovery.specs.View.{headsOf, leavesOf, discoveredOf, Kept, Holds, Dropped, heads-append, length-leavesOf, kept-fewer, absent-heads, heads-prefix, heads-removeAt, heads-set, heads-getD, kept-held, single-sound, length-heads}
 
 -- ── a source with one page is put behind the others of its mark ──
 module _ (d : Discovery) (S N P : List (List ℕ)) (U : List ℕ) (k : Kept d S N P U) (m now : ℕ) (a : Announcement) (f : Fitting a) (small : m < 2)

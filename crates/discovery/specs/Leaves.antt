@@ -2,40 +2,21 @@
 -- Assumes nothing.
 use mathlib.Core.Path.{_≡_, refl, sym, ap, _∙_}
 use mathlib.Core.Bool.{Bool, true, false, not, cond, _&&_}
-use mathlib.Core.Option.{Option, none, some}
-use mathlib.Core.List.{List, [], _∷_, _++_, map}
+use mathlib.Core.List.{List, [], _∷_, map}
 use Prim.Native.Nat.{ℕ, zero, suc, _+_, _≤_, _<_}
 use native.Mathlib.Omega.{arith}
 use lib.Dec.{leb, ltb, eqb}
-use lib.ListN.{length, take, drop, getD, set, length-append, length-map}
+use lib.ListN.{length}
 use Rattle.discovery.specs.Kept.{count-least}
-use borrow.Author.Tests.{eqb-true, eqb-false, eq-eqb, leb-true, leb-false, ltb-true, ltb-false, le-leb, lt-leb}
-use Rattle.table.specs.Cases.{split, clash, found, missing}
+use borrow.Author.Tests.{eqb-true, eqb-false, ltb-true, ltb-false, le-leb, lt-leb}
+use Rattle.table.specs.Cases.{split, clash}
 use Rattle.table.specs.Table.{keep, any}
-use Rattle.table.specs.Place.{prefix, insertAt, removeAt}
+use Rattle.table.specs.Place.{prefix, insertAt}
 use Rattle.rules.specs.declared.Cid.{Cid}
-use Rattle.rules.specs.Cid.{same, same-refl, same-path}
-use Rattle.discovery.specs.Discovery.{Page, Source, Discovered, lookup, drop-source, page-count, pages-held, cut-page, Once, Ordered}
-use Rattle.discovery.specs.Laws.{same-sym, same-join}
-use Rattle.discovery.specs.Store.{
-  Head,
-  Leaf,
-  owner,
-  heads-of,
-  held-by,
-  pages-at,
-  sourceOf,
-  sources-at,
-  viewOf,
-  Marked,
-  Housed,
-  Sound,
-  owner-path,
-  owner-self,
-  any-sources,
-  Single,
-  single-heads,
-}
+use Rattle.rules.specs.Cid.{same, same-refl}
+use Rattle.discovery.specs.Discovery.{Page, page-count, pages-held, cut-page}
+use Rattle.discovery.specs.Laws.{same-sym}
+use Rattle.discovery.specs.Store.{Head, Leaf, owner, heads-of, held-by, pages-at, sources-at, viewOf, Marked, Housed, Sound, owner-path, owner-self, Single, single-heads}
 
 -- ── one leaf more ──
 module _ (m : ℕ) (d : Cid) (l : Leaf) where

@@ -1,86 +1,24 @@
 -- What the code's moves on heads and leaves make of the sources seen, and that each keeps them sound.
 -- Assumes nothing.
 use mathlib.Core.Path.{_≡_, refl, sym, ap, _∙_}
-use mathlib.Core.Bool.{Bool, true, false, not, cond, _&&_}
-use mathlib.Core.Option.{Option, none, some}
+use mathlib.Core.Bool.{Bool, true, false, not, cond}
+use mathlib.Core.Option.{some}
 use mathlib.Core.List.{List, [], _∷_, _++_, map, append-nil}
-use Prim.Native.Nat.{ℕ, zero, suc, _+_, _≤_, _<_}
+use Prim.Native.Nat.{ℕ, zero, suc, _≤_, _<_}
 use native.Mathlib.Omega.{arith}
-use lib.Dec.{leb, ltb, eqb}
-use lib.ListN.{length, take, drop, getD, set, length-append, length-map}
-use borrow.Author.Tests.{eqb-true, eqb-false, eq-eqb}
-use Rattle.table.specs.Cases.{split, clash, found, missing}
+use lib.Dec.{leb, eqb}
+use lib.ListN.{length, getD, set}
+use borrow.Author.Tests.{eqb-true, eq-eqb}
+use Rattle.table.specs.Cases.{split, clash, missing}
 use Rattle.table.specs.Table.{keep, any}
-use Rattle.table.specs.Place.{prefix, insertAt, removeAt}
+use Rattle.table.specs.Place.{prefix, insertAt}
 use Rattle.rules.specs.declared.Cid.{Cid}
 use Rattle.rules.specs.Cid.{same, same-refl, same-path}
-use Rattle.discovery.specs.Discovery.{
-  Page,
-  Source,
-  Discovered,
-  lookup,
-  drop-source,
-  updated,
-  page-count,
-  pages-held,
-  capacity,
-  cut-page,
-  cut,
-  ended,
-  Once,
-  Ordered,
-  Proper,
-  All-proper,
-  noting,
-  extend,
-  list,
-  begin,
-}
-use Rattle.discovery.specs.Laws.{same-sym, same-join, none-lookup, lookup-none, lookup-cid}
-use Rattle.discovery.specs.Kept.{once-drop, all-keep, count-keep, once-append, all-append, count-append, ordered-noting, ordered-ended, any-append}
-use Rattle.discovery.specs.Store.{
-  Head,
-  Leaf,
-  owner,
-  heads-of,
-  held-by,
-  pages-at,
-  sourceOf,
-  sources-at,
-  viewOf,
-  Marked,
-  Housed,
-  Sound,
-  owner-path,
-  owner-self,
-  any-sources,
-  Single,
-  single-heads,
-  sources-alike,
-  sources-beside,
-  sources-dropped,
-  sources-dropped-other,
-  sources-append,
-  sources-append-other,
-  lookup-pages,
-  renewed,
-  sources-renewed,
-}
-use Rattle.discovery.specs.Leaves.{
-  pages-beside,
-  behind,
-  pages-placed,
-  pages-dropped,
-  pages-none,
-  pages-empty,
-  turned,
-  pages-turned,
-  pages-turned-beside,
-  cut-leaf,
-  pages-cut,
-  pages-cut-beside,
-  held-leaves,
-}
+use Rattle.discovery.specs.Discovery.{Page, Source, Discovered, lookup, drop-source, updated, pages-held, capacity, cut-page, cut, ended, Ordered, Proper}
+use Rattle.discovery.specs.Laws.{same-sym, lookup-none}
+use Rattle.discovery.specs.Kept.{once-drop, all-keep, count-keep, once-append, all-append, count-append, ordered-ended, any-append}
+use Rattle.discovery.specs.Store.{Head, Leaf, owner, heads-of, held-by, pages-at, sourceOf, sources-at, viewOf, Marked, Housed, Sound, owner-path, owner-self, any-sources, sources-alike, sources-beside, sources-dropped, sources-dropped-other, sources-append, sources-append-other, lookup-pages, renewed, sources-renewed}
+use Rattle.discovery.specs.Leaves.{pages-beside, behind, pages-placed, pages-dropped, pages-none, pages-empty, turned, pages-turned, pages-turned-beside, cut-leaf, pages-cut, pages-cut-beside, held-leaves}
 
 -- ── an owner goes ──
 abbrev pub without : ℕ → Cid → Discovered → Discovered

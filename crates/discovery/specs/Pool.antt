@@ -1,16 +1,16 @@
 -- The turns of loops over the pool: an element pushed behind those already there, and elements moved up from the end.
 -- Assumes nothing.
-use mathlib.Core.Path.{_≡_, refl, sym, ap, _∙_}
-use mathlib.Core.Bool.{Bool, true, false, not, cond}
-use mathlib.Core.List.{List, [], _∷_, _++_, append-assoc, append-nil}
-use Prim.Native.Nat.{ℕ, suc, _+_, _≤_, _<_}
+use mathlib.Core.Path.{_≡_, sym, ap, _∙_}
+use mathlib.Core.Bool.{Bool, true, false, cond}
+use mathlib.Core.List.{List, [], _∷_, _++_, append-nil}
+use Prim.Native.Nat.{ℕ, _+_, _≤_, _<_}
 use native.Mathlib.Omega.{arith}
 use native.Mathlib.Numerals.{add-one}
-use lib.ListN.{length, take, drop, getD, set, length-append, length-take, length-drop, length-set}
-use lib.Seq.{take-take, take-suc, take-suc-set, take-set-le, drop-set-lt, drop-drop, drop-cons, getD-drop, getD-take, getD-set-same}
+use lib.ListN.{length, take, drop, getD, set, length-drop, length-set}
+use lib.Seq.{take-take, take-suc, take-suc-set, drop-set-lt, drop-drop, getD-drop, getD-take, getD-set-same}
 use Rattle.table.specs.Cases.{split}
 use Rattle.table.specs.Table.{keep}
-use Rattle.table.specs.Arrays.{next, replace, untouched}
+use Rattle.table.specs.Arrays.{next, untouched}
 
 module _ {A : Type 0} where
   -- an element written behind those already there

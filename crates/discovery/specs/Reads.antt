@@ -1,23 +1,21 @@
 -- The k-th entry of a list that passes a test: where it stands, and how many there are.
 -- Assumes nothing.
-use mathlib.Core.Path.{_≡_, refl, sym, ap, _∙_}
-use mathlib.Core.Bool.{Bool, true, false, not, cond}
-use mathlib.Core.List.{List, [], _∷_, map}
-use Prim.Native.Nat.{ℕ, zero, suc, _+_, _-_, _≤_, _<_}
+use mathlib.Core.Path.{_≡_, refl, ap, _∙_}
+use mathlib.Core.Bool.{Bool, true, false, cond}
+use mathlib.Core.List.{List, [], _∷_}
+use Prim.Native.Nat.{ℕ, zero, suc, _+_, _≤_, _<_}
 use native.Mathlib.Omega.{arith}
 use lib.Dec.{eqb}
-use lib.ListN.{length, take, drop, getD, length-map, length-take}
+use lib.ListN.{length, take, drop, getD, length-take}
 use lib.Seq.{getD-take, drop-drop, take-take}
-use Rattle.table.specs.Cases.{split, clash}
+use Rattle.table.specs.Cases.{split}
 use Rattle.table.specs.Table.{keep}
-use Rattle.table.specs.Place.{getD-map}
 use Rattle.table.specs.Arrays.{next}
 use Rattle.rules.specs.declared.Cid.{Cid}
 use Rattle.discovery.specs.declared.Discovery.{Discovery}
 use Rattle.discovery.specs.Discovery.{Page, Source}
-use Rattle.discovery.specs.Store.{Head, Leaf, held-by, pages-at, sourceOf, sources-at, viewOf}
-use Rattle.discovery.specs.Rows.{cidAt, owned, headOf, leafAt, leafWith, heads, leaves, total, amount}
-use Rattle.discovery.specs.Steps.{leaves-drop}
+use Rattle.discovery.specs.Store.{pages-at, sourceOf, sources-at, viewOf}
+use Rattle.discovery.specs.Rows.{owned, headOf, leafAt, heads, leaves, total, amount}
 use Rattle.discovery.specs.View.{headsOf, leavesOf, discoveredOf}
 
 -- how many entries stand before the k-th that passes the test; all of them where there are not so many

@@ -9,17 +9,17 @@ use Prim.Native.Nat.{ℕ, zero, suc, _+_, _-_, _*_, _≤_, _<_}
 use borrow.Author.Tests.{ltb-true, ltb-false}
 use native.Mathlib.Omega.{arith}
 use lib.Dec.{ltb, eqb}
-use lib.ListN.{length, take, drop, getD, set, length-append, length-take, length-drop, length-set}
+use lib.ListN.{length, take, drop, getD, set, length-take, length-set}
 use native.Mathlib.Numerals.{add-one}
-use lib.Seq.{take-take, take-suc, take-suc-set, take-nil, take-at, drop-at, drop-drop, take-add, take-append-le, take-all}
+use lib.Seq.{take-take, take-suc, take-suc-set, take-nil, take-at, drop-at, drop-drop, take-all}
 use Rattle.table.specs.Cases.{split}
-use Rattle.table.specs.Table.{keep, any}
-use Rattle.table.specs.Place.{prefix, insertAt, removeAt, append-map}
+use Rattle.table.specs.Table.{keep}
+use Rattle.table.specs.Place.{append-map}
 use Rattle.table.specs.Arrays.{next}
 use Rattle.rules.specs.declared.Cid.{Cid}
-use Rattle.discovery.specs.Discovery.{Page, cut-page}
-use Rattle.discovery.specs.Store.{Head, Leaf, owner, heads-of, held-by, renewed}
-use Rattle.discovery.specs.Leaves.{behind, turned, cut-leaf}
+use Rattle.discovery.specs.Discovery.{cut-page}
+use Rattle.discovery.specs.Store.{Head, Leaf, owner, held-by}
+use Rattle.discovery.specs.Leaves.{cut-leaf}
 use Rattle.discovery.specs.Pool.{further, further-read, read-first, keep-more, dropped-both}
 
 abbrev pub cidAt : List ℕ → Cid

@@ -1,45 +1,17 @@
 -- What the code's steps on rows and pool make of heads and leaves, with all that is presupposed kept.
 -- Assumes nothing.
 use mathlib.Core.Path.{_≡_, refl, sym, ap, _∙_}
-use mathlib.Core.Bool.{Bool, true, false, not, cond, _&&_}
-use mathlib.Core.Option.{Option, none, some}
-use mathlib.Core.List.{List, [], _∷_, _++_, map}
+use mathlib.Core.Bool.{Bool, not}
+use mathlib.Core.List.{List, [], _∷_, _++_}
 use Prim.Native.Nat.{ℕ, zero, suc, _+_, _-_, _≤_, _<_}
 use native.Mathlib.Omega.{arith}
-use native.Mathlib.Numerals.{add-one}
-use lib.Dec.{eqb, ltb}
-use lib.ListN.{length, take, drop, getD, set, length-take, length-drop, length-append, length-set}
-use lib.Seq.{take-take, take-all, take-at, drop-at, drop-drop}
-use Rattle.table.specs.Cases.{split}
-use Rattle.table.specs.Table.{keep, any}
-use Rattle.table.specs.Place.{prefix, prefix-le, insertAt, removeAt}
+use lib.ListN.{length, take, drop, length-take}
+use lib.Seq.{take-take, take-at, drop-at, drop-drop}
+use Rattle.table.specs.Place.{prefix, prefix-le, insertAt}
 use Rattle.rules.specs.declared.Cid.{Cid}
-use Rattle.discovery.specs.Discovery.{Page}
-use Rattle.discovery.specs.Store.{Head, Leaf, heads-of, held-by}
-use Rattle.discovery.specs.Leaves.{behind, turned}
-use Rattle.discovery.specs.Rows.{
-  cidAt,
-  owned,
-  headOf,
-  leafAt,
-  leafWith,
-  heads,
-  leaves,
-  total,
-  amount,
-  Few,
-  Packing,
-  Packs,
-  larger,
-  turned-row,
-  leaves-agree,
-  leaves-append,
-  taken-dropped,
-  total-append,
-  few-less,
-  few-append,
-  total-few,
-}
+use Rattle.discovery.specs.Store.{Leaf}
+use Rattle.discovery.specs.Leaves.{behind}
+use Rattle.discovery.specs.Rows.{leafAt, leafWith, leaves, total, amount, Few, Packing, Packs, larger, leaves-agree, leaves-append, taken-dropped, total-append, total-few}
 
 -- ── one page more for a partial source ──
 leaves-prefix : (c : Cid) (n : ℕ) (rs : List (List ℕ)) (us : List ℕ) → prefix (behind 0 c n) (leaves rs us) ≡ prefix (λ r. not (larger c n r)) rs

@@ -3,21 +3,21 @@
 -- Assumes nothing.
 use mathlib.Core.Path.{_≡_, refl, sym, ap, _∙_}
 use mathlib.Core.Bool.{Bool, true, false, not, cond, _&&_}
-use mathlib.Core.Option.{Option, none, some}
+use mathlib.Core.Option.{none, some}
 use mathlib.Core.List.{List, [], _∷_, _++_, map}
-use Prim.Native.Nat.{ℕ, zero, suc, _+_, _≤_, _<_}
+use Prim.Native.Nat.{ℕ, _+_, _≤_, _<_}
 use native.Mathlib.Omega.{arith}
-use lib.Dec.{leb, ltb, eqb}
-use lib.ListN.{length, take, drop, getD, set, length-append, length-map}
+use lib.Dec.{eqb}
+use lib.ListN.{length, getD, set}
 use borrow.Author.Tests.{eqb-true, eq-eqb}
 use Rattle.table.specs.Cases.{split, clash, found, missing}
 use Rattle.table.specs.Table.{keep, any}
-use Rattle.table.specs.Place.{prefix, insertAt, removeAt}
+use Rattle.table.specs.Place.{prefix, removeAt}
 use Rattle.rules.specs.declared.Cid.{Cid}
 use Rattle.rules.specs.Cid.{same, same-refl, same-path}
-use Rattle.discovery.specs.Discovery.{Page, Source, Discovered, lookup, drop-source, updated, page-count, pages-held, Once, Ordered}
-use Rattle.discovery.specs.Laws.{same-join, same-sym, lookup-cid, lookup-none, none-lookup}
-use Rattle.discovery.specs.Kept.{updated-none, dropped-none}
+use Rattle.discovery.specs.Discovery.{Page, Source, Discovered, lookup, drop-source, updated, Once, Ordered}
+use Rattle.discovery.specs.Laws.{lookup-cid}
+use Rattle.discovery.specs.Kept.{updated-none}
 
 pub record Head : Type 0 where
   pub mark : ℕ

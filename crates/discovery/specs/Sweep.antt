@@ -3,7 +3,7 @@
 use mathlib.Core.Path.{_≡_, refl, sym, ap, _∙_}
 use mathlib.Core.Bool.{Bool, true, false, not, cond, _&&_}
 use mathlib.Core.List.{List, [], _∷_, map}
-use Prim.Native.Nat.{ℕ, zero, suc, _+_, _≤_, _<_}
+use Prim.Native.Nat.{ℕ, zero, suc, _≤_, _<_}
 use native.Mathlib.Omega.{arith}
 use lib.Dec.{eqb}
 use lib.ListN.{length, take, drop, getD, length-take}
@@ -16,11 +16,11 @@ use Rattle.rules.specs.declared.Cid.{Cid}
 use Rattle.rules.specs.Cid.{same, same-path}
 use Rattle.rules.specs.Age.{aged}
 use Rattle.discovery.specs.declared.Discovery.{Discovery}
-use Rattle.discovery.specs.Discovery.{Page, Source, Discovered, drop-source, current, swept, ended, Once, nothing-known, page-count}
+use Rattle.discovery.specs.Discovery.{Page, Source, drop-source, current, swept, ended, Once, nothing-known, page-count}
 use Rattle.discovery.specs.Kept.{dropped-none}
-use Rattle.discovery.specs.Store.{Head, Leaf, heads-of, pages-at, sourceOf, sources-at, viewOf, Marked, owner-self, any-sources, prefix-none}
+use Rattle.discovery.specs.Store.{Head, heads-of, pages-at, sourceOf, sources-at, viewOf, Marked, owner-self, any-sources, prefix-none}
 use Rattle.discovery.specs.Leaves.{cut-leaf}
-use Rattle.discovery.specs.Moves.{without, view-cut, sound-cut}
+use Rattle.discovery.specs.Moves.{view-cut, sound-cut}
 use Rattle.discovery.specs.Rows.{cidAt, headOf, heads, leaves, total, Packs}
 use Rattle.discovery.specs.View.{headsOf, leavesOf, discoveredOf, Kept, Holds, Dropped, heads-getD, length-headsOf}
 

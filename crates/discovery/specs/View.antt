@@ -1,46 +1,24 @@
 -- The sources seen in the state and the memory lent to it, and what is presupposed of them.
 -- Assumes nothing.
 use mathlib.Core.Path.{_≡_, refl, sym, ap, _∙_}
-use mathlib.Core.Bool.{Bool, true, false, not, cond, _&&_}
-use mathlib.Core.Option.{Option, none, some}
-use mathlib.Core.List.{List, [], _∷_, _++_, map}
-use Prim.Native.Nat.{ℕ, zero, suc, _+_, _-_, _≤_, _<_}
+use mathlib.Core.Bool.{true, false, not}
+use mathlib.Core.List.{List, [], _∷_, _++_}
+use Prim.Native.Nat.{ℕ, zero, suc, _-_, _≤_, _<_}
 use native.Mathlib.Omega.{arith}
-use native.Mathlib.Numerals.{add-one}
 use lib.Dec.{eqb, ltb}
-use lib.ListN.{length, take, drop, getD, set, length-take, length-append}
-use lib.Seq.{take-suc-set, take-set-lt, take-nil}
-use borrow.Author.Tests.{eqb-true, eqb-false, eq-eqb, ltb-true, ltb-false}
-use Rattle.table.specs.Cases.{split, clash, missing}
+use lib.ListN.{length, take, drop, getD, set, length-take}
+use lib.Seq.{take-nil}
+use borrow.Author.Tests.{eqb-true, eqb-false, ltb-true, ltb-false}
+use Rattle.table.specs.Cases.{split, clash}
 use Rattle.table.specs.Table.{keep, any}
-use Rattle.table.specs.Place.{prefix, insertAt, removeAt, length-removeAt, prefix-le}
+use Rattle.table.specs.Place.{prefix, removeAt}
 use Rattle.rules.specs.declared.Cid.{Cid}
-use Rattle.rules.specs.Cid.{same}
 use Rattle.discovery.specs.declared.Discovery.{Discovery}
-use Rattle.discovery.specs.Discovery.{Page, Source, Discovered, capacity, pages-held, Once, Ordered, Proper}
-use Rattle.discovery.specs.Store.{
-  Head,
-  Leaf,
-  heads-of,
-  held-by,
-  pages-at,
-  sourceOf,
-  sources-at,
-  viewOf,
-  Marked,
-  Housed,
-  Sound,
-  Single,
-  single-heads,
-  keep-none,
-  keep-single,
-  prefix-none,
-  prefix-any,
-  renewed,
-}
+use Rattle.discovery.specs.Discovery.{Discovered, pages-held}
+use Rattle.discovery.specs.Store.{Head, Leaf, heads-of, held-by, pages-at, viewOf, Sound, Single, single-heads, keep-none, keep-single, prefix-none, prefix-any}
 use Rattle.discovery.specs.Leaves.{held-leaves, heads-leaves, pages-none}
-use Rattle.discovery.specs.Moves.{without, others, leaves-of-others, view-dropped, sound-dropped, with-source, leafOf, view-with, sound-with}
-use Rattle.discovery.specs.Rows.{cidAt, owned, headOf, leafAt, heads, leaves, total, amount, Few, Packing, Packs, length-leaves}
+use Rattle.discovery.specs.Moves.{without, others, leaves-of-others, view-dropped, sound-dropped}
+use Rattle.discovery.specs.Rows.{owned, headOf, heads, leaves, total, Packing, Packs, length-leaves}
 
 unfoldable pub headsOf : Discovery → List (List ℕ) → List (List ℕ) → List Head
 headsOf d sources names = heads (take (d .«source_count») sources) (take (d .«source_count») names)

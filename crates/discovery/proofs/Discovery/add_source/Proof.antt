@@ -1,7 +1,5 @@
 -- There are no more sources than pages, so that there is room for both.
 -- Assumes nothing.
-use mathlib.Core.Path.{_≡_, refl, sym, ap, _∙_}
-use Prim.Native.Nat.{ℕ, _+_, _≤_, _<_}
 use native.Mathlib.Omega.{arith}
 use lib.ListN.{length}
 use Rattle.discovery.specs.Discovery.{Announcement}
@@ -12,10 +10,6 @@ use Rattle.discovery.specs.Calls.{source-added}
 use borrow.Author.Needs.{needs}
 use Rattle.discovery.proofs.Discovery.add_source.Statement.{statement}
 use Rattle.discovery.proofs.Discovery.add_source.Tie as tie
-use Rattle.discovery.proofs.Discovery.add_source.Reads as reads
-use Rattle.discovery.proofs.Discovery.add_source.Lts as lts
-use Rattle.discovery.proofs.pool.write_at.Reads as write-at-reads
-use Rattle.discovery.proofs.rows.name_row.Reads as name-row-reads
 
 name-row-requires : tie.Need-name-row-requires
 name-row-requires c κs = search needs

@@ -1,17 +1,10 @@
 -- Where no row has the owner, nothing goes; otherwise its row, its name and its pages.
 -- Assumes nothing.
-use mathlib.Core.Path.{_≡_, refl, sym, ap, _∙_}
 use native.Mathlib.Omega.{arith}
 use Rattle.discovery.specs.View.{dropped-absent, dropped-kept}
 use borrow.Author.Needs.{needs}
 use Rattle.discovery.proofs.Discovery.drop_source.Statement.{statement}
 use Rattle.discovery.proofs.Discovery.drop_source.Tie as tie
-use Rattle.discovery.proofs.Discovery.drop_source.Reads as reads
-use Rattle.discovery.proofs.Discovery.drop_source.Lts as lts
-use Rattle.discovery.proofs.pages.drop_pages.Reads as drop-pages-reads
-use Rattle.discovery.proofs.rows.find_source.Reads as find-source-reads
-use Rattle.discovery.proofs.rows.remove_name.Reads as remove-name-reads
-use Rattle.discovery.proofs.rows.remove_source.Reads as remove-source-reads
 
 find-source-requires : tie.Need-find-source-requires
 find-source-requires c κs = search needs

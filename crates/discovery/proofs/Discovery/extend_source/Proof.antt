@@ -1,20 +1,15 @@
 -- The page is added and the row renewed.
 -- Assumes nothing.
-use mathlib.Core.Path.{_≡_, refl, sym, ap, _∙_}
-use Prim.Native.Nat.{ℕ, _+_, _≤_, _<_}
 use native.Mathlib.Omega.{arith}
 use lib.ListN.{length}
 use Rattle.discovery.specs.Discovery.{Announcement}
 use Rattle.discovery.specs.Kept.{Fitting}
 use Rattle.discovery.specs.View.{Kept}
 use Rattle.discovery.specs.Steps.{pool-small}
-use Rattle.discovery.specs.Calls.{source-extended, found-inside, still-partial, list-done}
+use Rattle.discovery.specs.Calls.{source-extended}
 use borrow.Author.Needs.{needs}
 use Rattle.discovery.proofs.Discovery.extend_source.Statement.{statement}
 use Rattle.discovery.proofs.Discovery.extend_source.Tie as tie
-use Rattle.discovery.proofs.Discovery.extend_source.Reads as reads
-use Rattle.discovery.proofs.Discovery.extend_source.Lts as lts
-use Rattle.discovery.proofs.pages.add_page.Reads as add-page-reads
 
 add-page-requires : tie.Need-add-page-requires
 add-page-requires c κs = search needs

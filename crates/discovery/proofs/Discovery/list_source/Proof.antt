@@ -1,23 +1,10 @@
 -- The old listed entry is dropped, then the partial one turned where it is found.
 -- Assumes nothing.
-use mathlib.Core.Path.{_≡_, refl, sym, ap, _∙_}
-use Prim.Native.Nat.{ℕ, _+_, _≤_, _<_}
 use native.Mathlib.Omega.{arith}
-use lib.ListN.{length}
-use Rattle.discovery.specs.Discovery.{Announcement}
-use Rattle.discovery.specs.Kept.{Fitting}
-use Rattle.discovery.specs.View.{Kept}
-use Rattle.discovery.specs.Steps.{pool-small}
-use Rattle.discovery.specs.Calls.{source-extended, found-inside, still-partial, list-done}
+use Rattle.discovery.specs.Calls.{found-inside, still-partial, list-done}
 use borrow.Author.Needs.{needs}
 use Rattle.discovery.proofs.Discovery.list_source.Statement.{statement}
 use Rattle.discovery.proofs.Discovery.list_source.Tie as tie
-use Rattle.discovery.proofs.Discovery.list_source.Reads as reads
-use Rattle.discovery.proofs.Discovery.list_source.Lts as lts
-use Rattle.discovery.proofs.Discovery.drop_source.Reads as drop-source-reads
-use Rattle.discovery.proofs.rows.find_source.Reads as find-source-reads
-use Rattle.discovery.proofs.rows.turn_pages.Reads as turn-pages-reads
-use Rattle.discovery.proofs.rows.turn_source.Reads as turn-source-reads
 
 drop-source-requires : tie.Need-drop-source-requires
 drop-source-requires c κs = search needs

@@ -1,29 +1,12 @@
 -- With 64 pages it is refused; otherwise it is taken, as the source has a partial entry or not.
 -- Assumes nothing.
-use mathlib.Core.Path.{_≡_, refl, sym, ap, _∙_}
-use mathlib.Core.Logic.{⊎-elim}
-use mathlib.Core.Bool.{true, false, _&&_}
-use mathlib.Core.List.{[]}
-use Prim.Native.Nat.{ℕ, _≤_, _<_}
 use native.Mathlib.Omega.{arith}
-use lib.Dec.{eqb}
-use lib.ListN.{getD}
-use borrow.Author.Tests.{eq-eqb, ne-eqb}
-use Rattle.table.specs.Table.{any}
-use Rattle.discovery.specs.Discovery.{Announcement, begun, extended, complete}
-use Rattle.discovery.specs.Store.{heads-of}
-use Rattle.discovery.specs.Moves.{with-source}
-use Rattle.discovery.specs.View.{headsOf, Kept, absent-heads, present-heads}
-use Rattle.discovery.specs.Calls.{head-source}
-use Rattle.discovery.specs.Arrive.{dropped-fewer, took-first, took-begun, took-extended, took-listed, seen-after, seen-head, complete-rows, last-of, arrival-full, arrival-taken}
+use Rattle.discovery.specs.Discovery.{Announcement}
+use Rattle.discovery.specs.View.{Kept, absent-heads}
+use Rattle.discovery.specs.Arrive.{arrival-full, arrival-taken}
 use borrow.Author.Needs.{needs}
 use Rattle.discovery.proofs.Discovery.page_arrives.Statement.{statement}
 use Rattle.discovery.proofs.Discovery.page_arrives.Tie as tie
-use Rattle.discovery.proofs.Discovery.page_arrives.Reads as reads
-use Rattle.discovery.proofs.Discovery.page_arrives.Lts as lts
-use Rattle.discovery.proofs.Discovery.take_first.Reads as take-first-reads
-use Rattle.discovery.proofs.Discovery.take_next.Reads as take-next-reads
-use Rattle.discovery.proofs.rows.find_source.Reads as find-source-reads
 
 returns : tie.Need-returns
 returns c =

@@ -1,13 +1,10 @@
 -- The rows of the owner are its pages.
 -- Assumes nothing.
 use mathlib.Core.Path.{sym, _∙_}
-use Rattle.discovery.specs.Reads.{partial-total, listed-total, page-number, source-at-place, page-at-place}
+use Rattle.discovery.specs.Reads.{page-number}
 use borrow.Author.Needs.{needs}
 use Rattle.discovery.proofs.Discovery.page_total.Statement.{statement}
 use Rattle.discovery.proofs.Discovery.page_total.Tie as tie
-use Rattle.discovery.proofs.Discovery.page_total.Reads as reads
-use Rattle.discovery.proofs.Discovery.page_total.Lts as lts
-use Rattle.discovery.proofs.rows.count_pages.Reads as count-pages-reads
 
 count-pages-requires : tie.Need-count-pages-requires
 count-pages-requires c κs = search needs

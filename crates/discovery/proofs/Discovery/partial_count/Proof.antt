@@ -1,13 +1,10 @@
 -- The rows of the mark are the sources.
 -- Assumes nothing.
 use mathlib.Core.Path.{sym, _∙_}
-use Rattle.discovery.specs.Reads.{partial-total, listed-total, page-number, source-at-place, page-at-place}
+use Rattle.discovery.specs.Reads.{partial-total}
 use borrow.Author.Needs.{needs}
 use Rattle.discovery.proofs.Discovery.partial_count.Statement.{statement}
 use Rattle.discovery.proofs.Discovery.partial_count.Tie as tie
-use Rattle.discovery.proofs.Discovery.partial_count.Reads as reads
-use Rattle.discovery.proofs.Discovery.partial_count.Lts as lts
-use Rattle.discovery.proofs.rows.count_sources.Reads as count-sources-reads
 
 count-sources-requires : tie.Need-count-sources-requires
 count-sources-requires c κs = search needs

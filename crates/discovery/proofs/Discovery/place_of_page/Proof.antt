@@ -1,13 +1,9 @@
 -- The place of the owner's k-th row is that of its k-th page.
 -- Assumes nothing.
-use mathlib.Core.Path.{sym, _∙_}
-use Rattle.discovery.specs.Reads.{partial-total, listed-total, page-number, source-at-place, page-at-place}
+use Rattle.discovery.specs.Reads.{page-at-place}
 use borrow.Author.Needs.{needs}
 use Rattle.discovery.proofs.Discovery.place_of_page.Statement.{statement}
 use Rattle.discovery.proofs.Discovery.place_of_page.Tie as tie
-use Rattle.discovery.proofs.Discovery.place_of_page.Reads as reads
-use Rattle.discovery.proofs.Discovery.place_of_page.Lts as lts
-use Rattle.discovery.proofs.rows.nth_page.Reads as nth-page-reads
 
 nth-page-requires : tie.Need-nth-page-requires
 nth-page-requires c κs = search needs

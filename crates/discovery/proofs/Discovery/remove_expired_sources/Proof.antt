@@ -1,23 +1,16 @@
 -- While an expired source is found it goes: the sweep of what is left is the sweep of all.
 -- Assumes nothing.
-use mathlib.Core.Path.{_≡_, refl, sym, ap, _∙_}
-use mathlib.Core.Bool.{true, false, not}
-use mathlib.Core.List.{[]}
-use Prim.Native.Nat.{ℕ, _≤_, _<_, _-_, _+_}
+use mathlib.Core.Path.{_≡_, refl, sym, _∙_}
+use mathlib.Core.Bool.{not}
 use native.Mathlib.Omega.{arith}
-use lib.ListN.{length, take, drop, getD}
+use lib.ListN.{length, take}
 use Rattle.table.specs.Place.{prefix}
-use Rattle.table.specs.Arrays.{prefix-stays, prefix-goes, spent}
 use Rattle.discovery.specs.Discovery.{swept}
 use Rattle.discovery.specs.View.{Kept, discoveredOf}
-use Rattle.discovery.specs.Sweep.{fresh, universe-ended, old-row, sweep-done, sweep-mark, sweep-there, sweep-turn}
+use Rattle.discovery.specs.Sweep.{old-row, sweep-done, sweep-mark, sweep-there, sweep-turn}
 use borrow.Author.Needs.{needs}
 use Rattle.discovery.proofs.Discovery.remove_expired_sources.Statement.{statement}
 use Rattle.discovery.proofs.Discovery.remove_expired_sources.Tie as tie
-use Rattle.discovery.proofs.Discovery.remove_expired_sources.Reads as reads
-use Rattle.discovery.proofs.Discovery.remove_expired_sources.Lts as lts
-use Rattle.discovery.proofs.Discovery.drop_source.Reads as drop-source-reads
-use Rattle.discovery.proofs.rows.find_expired.Reads as find-expired-reads
 
 abbrev Inv-loop : tie.InvT-loop
 Inv-loop sources₀ names₀ pages₀ universes₀ time reading d₀ at₀ sources names pages universes d at =

@@ -1,13 +1,9 @@
 -- The place of the k-th row of the mark is that of the k-th source.
 -- Assumes nothing.
-use mathlib.Core.Path.{sym, _∙_}
-use Rattle.discovery.specs.Reads.{partial-total, listed-total, page-number, source-at-place, page-at-place}
+use Rattle.discovery.specs.Reads.{source-at-place}
 use borrow.Author.Needs.{needs}
 use Rattle.discovery.proofs.Discovery.source_place.Statement.{statement}
 use Rattle.discovery.proofs.Discovery.source_place.Tie as tie
-use Rattle.discovery.proofs.Discovery.source_place.Reads as reads
-use Rattle.discovery.proofs.Discovery.source_place.Lts as lts
-use Rattle.discovery.proofs.rows.nth_source.Reads as nth-source-reads
 
 nth-source-requires : tie.Need-nth-source-requires
 nth-source-requires c κs = search needs

@@ -1,28 +1,18 @@
 -- Page 0 with last page 0 is listed in the place of the old entry; any other begins a partial one.
 -- Assumes nothing.
-use mathlib.Core.Path.{_≡_, refl, sym, ap, _∙_}
+use mathlib.Core.Path.{_≡_, ap, _∙_}
 use mathlib.Core.Logic.{⊎-elim}
 use mathlib.Core.Bool.{true, false, _&&_}
-use mathlib.Core.List.{[]}
-use Prim.Native.Nat.{ℕ, _≤_, _<_}
 use native.Mathlib.Omega.{arith}
 use lib.Dec.{eqb}
-use lib.ListN.{getD}
 use borrow.Author.Tests.{eq-eqb, ne-eqb}
-use Rattle.table.specs.Table.{any}
-use Rattle.discovery.specs.Discovery.{Announcement, begun, extended, complete}
-use Rattle.discovery.specs.Store.{heads-of}
+use Rattle.discovery.specs.Discovery.{Announcement, begun}
 use Rattle.discovery.specs.Moves.{with-source}
-use Rattle.discovery.specs.View.{headsOf, Kept, absent-heads, present-heads}
-use Rattle.discovery.specs.Calls.{head-source}
-use Rattle.discovery.specs.Arrive.{dropped-fewer, took-first, took-begun, took-extended, took-listed, seen-after, seen-head, complete-rows, last-of, arrival-full, arrival-taken}
+use Rattle.discovery.specs.View.{Kept}
+use Rattle.discovery.specs.Arrive.{dropped-fewer, took-first, took-begun}
 use borrow.Author.Needs.{needs}
 use Rattle.discovery.proofs.Discovery.take_first.Statement.{statement}
 use Rattle.discovery.proofs.Discovery.take_first.Tie as tie
-use Rattle.discovery.proofs.Discovery.take_first.Reads as reads
-use Rattle.discovery.proofs.Discovery.take_first.Lts as lts
-use Rattle.discovery.proofs.Discovery.add_source.Reads as add-source-reads
-use Rattle.discovery.proofs.Discovery.drop_source.Reads as drop-source-reads
 
 drop-source-requires : tie.Need-drop-source-requires
 drop-source-requires c κs = search needs

@@ -1,29 +1,19 @@
 -- The page is added; if the rows then hold the pages in turn, the source is listed.
 -- Assumes nothing.
-use mathlib.Core.Path.{_≡_, refl, sym, ap, _∙_}
-use mathlib.Core.Logic.{⊎-elim}
-use mathlib.Core.Bool.{true, false, _&&_}
+use mathlib.Core.Path.{_≡_, sym, _∙_}
+use mathlib.Core.Bool.{true, false}
 use mathlib.Core.List.{[]}
-use Prim.Native.Nat.{ℕ, _≤_, _<_}
 use native.Mathlib.Omega.{arith}
-use lib.Dec.{eqb}
 use lib.ListN.{getD}
-use borrow.Author.Tests.{eq-eqb, ne-eqb}
 use Rattle.table.specs.Table.{any}
-use Rattle.discovery.specs.Discovery.{Announcement, begun, extended, complete}
+use Rattle.discovery.specs.Discovery.{Announcement, extended, complete}
 use Rattle.discovery.specs.Store.{heads-of}
-use Rattle.discovery.specs.Moves.{with-source}
-use Rattle.discovery.specs.View.{headsOf, Kept, absent-heads, present-heads}
+use Rattle.discovery.specs.View.{headsOf, Kept, present-heads}
 use Rattle.discovery.specs.Calls.{head-source}
-use Rattle.discovery.specs.Arrive.{dropped-fewer, took-first, took-begun, took-extended, took-listed, seen-after, seen-head, complete-rows, last-of, arrival-full, arrival-taken}
+use Rattle.discovery.specs.Arrive.{took-extended, took-listed, seen-after, seen-head, complete-rows, last-of}
 use borrow.Author.Needs.{needs}
 use Rattle.discovery.proofs.Discovery.take_next.Statement.{statement}
 use Rattle.discovery.proofs.Discovery.take_next.Tie as tie
-use Rattle.discovery.proofs.Discovery.take_next.Reads as reads
-use Rattle.discovery.proofs.Discovery.take_next.Lts as lts
-use Rattle.discovery.proofs.Discovery.extend_source.Reads as extend-source-reads
-use Rattle.discovery.proofs.Discovery.list_source.Reads as list-source-reads
-use Rattle.discovery.proofs.rows.has_all_pages.Reads as has-all-pages-reads
 
 mul-row : tie.Need-mul-row
 mul-row c = search needs

@@ -1,22 +1,10 @@
 -- The pages are cut; the sources stay.
 -- Assumes nothing.
-use mathlib.Core.Path.{_≡_, refl, sym, ap, _∙_}
-use mathlib.Core.Bool.{true, false, not}
-use mathlib.Core.List.{[]}
-use Prim.Native.Nat.{ℕ, _≤_, _<_, _-_, _+_}
-use native.Mathlib.Omega.{arith}
-use lib.ListN.{length, take, drop, getD}
-use Rattle.table.specs.Place.{prefix}
-use Rattle.table.specs.Arrays.{prefix-stays, prefix-goes, spent}
-use Rattle.discovery.specs.Discovery.{swept}
-use Rattle.discovery.specs.View.{Kept, discoveredOf}
-use Rattle.discovery.specs.Sweep.{fresh, universe-ended, old-row, sweep-done, sweep-mark, sweep-there, sweep-turn}
+use lib.ListN.{length}
+use Rattle.discovery.specs.Sweep.{universe-ended}
 use borrow.Author.Needs.{needs}
 use Rattle.discovery.proofs.Discovery.terminate_universe.Statement.{statement}
 use Rattle.discovery.proofs.Discovery.terminate_universe.Tie as tie
-use Rattle.discovery.proofs.Discovery.terminate_universe.Reads as reads
-use Rattle.discovery.proofs.Discovery.terminate_universe.Lts as lts
-use Rattle.discovery.proofs.pages.cut_pages.Reads as cut-pages-reads
 
 cut-pages-requires : tie.Need-cut-pages-requires
 cut-pages-requires c κs = search needs

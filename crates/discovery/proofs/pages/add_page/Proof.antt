@@ -1,23 +1,15 @@
 -- The place and its offset are found, the gap opened and filled, and the row put in.
 -- Assumes nothing.
-use mathlib.Core.Path.{_≡_, refl, sym, ap, _∙_}
+use mathlib.Core.Path.{_∙_}
 use mathlib.Core.Bool.{not}
-use mathlib.Core.List.{List, _∷_, []}
-use Prim.Native.Nat.{ℕ, _≤_}
+use Prim.Native.Nat.{_≤_}
 use native.Mathlib.Omega.{arith}
-use lib.ListN.{length, take}
-use Rattle.discovery.specs.Rows.{larger, total, few-less}
+use lib.ListN.{length}
+use Rattle.discovery.specs.Rows.{larger, few-less}
 use Rattle.discovery.specs.Steps.{offset-inside, pool-room, place-within, page-inserted}
 use borrow.Author.Needs.{needs}
 use Rattle.discovery.proofs.pages.add_page.Statement.{statement}
 use Rattle.discovery.proofs.pages.add_page.Tie as tie
-use Rattle.discovery.proofs.pages.add_page.Reads as reads
-use Rattle.discovery.proofs.pages.add_page.Lts as lts
-use Rattle.discovery.proofs.pool.open_gap.Reads as open-gap-reads
-use Rattle.discovery.proofs.pool.write_at.Reads as write-at-reads
-use Rattle.discovery.proofs.rows.insert_page.Reads as insert-page-reads
-use Rattle.discovery.proofs.rows.offset.Reads as offset-reads
-use Rattle.discovery.proofs.rows.page_place.Reads as page-place-reads
 
 page-place-requires : tie.Need-page-place-requires
 page-place-requires c κs = search needs

@@ -1,26 +1,20 @@
 -- One law for each turn of the pass: the page is cut, or it is moved down as it is.
 -- Assumes nothing.
 use mathlib.Core.Path.{_≡_, refl, sym, ap, _∙_}
-use mathlib.Core.Bool.{Bool, true, false, not}
+use mathlib.Core.Bool.{true, false, not}
 use mathlib.Core.List.{List, _++_, _∷_, [], map}
-use Prim.Native.Nat.{ℕ, _≤_, _<_, _-_, _+_}
+use Prim.Native.Nat.{ℕ, _<_, _-_, _+_}
 use native.Mathlib.Omega.{arith}
 use lib.Dec.{eqb}
-use lib.ListN.{length, take, drop, getD, set, length-take}
-use lib.Seq.{set-getD, take-all, take-take}
+use lib.ListN.{take, drop, getD, length-take}
+use lib.Seq.{set-getD, take-all}
 use Rattle.table.specs.Table.{keep, length-keep}
-use Rattle.rules.specs.declared.Cid.{Cid}
-use Rattle.discovery.specs.Store.{Leaf, held-by}
+use Rattle.discovery.specs.Store.{Leaf}
 use Rattle.discovery.specs.Leaves.{cut-leaf}
-use Rattle.discovery.specs.Rows.{leaves, leafAt, amount, owned, Packing, Packs, Pass, pass-start, pass-row, pass-few, pass-room, pass-skip, pass-put, pass-end, image-gone, image-kept, image-whole, image-less, leaf-same}
+use Rattle.discovery.specs.Rows.{leaves, leafAt, amount, owned, Pass, pass-start, pass-row, pass-few, pass-room, pass-put, pass-end, image-whole, image-less}
 use borrow.Author.Needs.{needs}
 use Rattle.discovery.proofs.pages.cut_pages.Statement.{statement}
 use Rattle.discovery.proofs.pages.cut_pages.Tie as tie
-use Rattle.discovery.proofs.pages.cut_pages.Reads as reads
-use Rattle.discovery.proofs.pages.cut_pages.Lts as lts
-use Rattle.discovery.proofs.pool.cut_down.Reads as cut-down-reads
-use Rattle.discovery.proofs.pool.move_down.Reads as move-down-reads
-use Rattle.discovery.proofs.rows.is_page_of.Reads as is-page-of-reads
 
 abbrev Inv-loop : tie.InvT-loop
 Inv-loop pages₀ universes₀ count cid universe to₀ from₀ i₀ pages universes to from i = Pass count pages₀ universes₀ (map (cut-leaf cid universe) (leaves (take i pages₀) universes₀)) pages universes i to from i

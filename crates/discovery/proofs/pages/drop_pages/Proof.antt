@@ -1,25 +1,17 @@
 -- One law for each turn of the pass: the page goes, or it is moved down.
 -- Assumes nothing.
 use mathlib.Core.Path.{_≡_, refl, sym, ap, _∙_}
-use mathlib.Core.Bool.{Bool, true, false, not}
-use mathlib.Core.List.{List, _++_, _∷_, [], map}
-use Prim.Native.Nat.{ℕ, _≤_, _<_, _-_, _+_}
+use mathlib.Core.Bool.{true, false, not}
+use mathlib.Core.List.{List, _++_, _∷_, []}
+use Prim.Native.Nat.{_<_, _-_, _+_}
 use native.Mathlib.Omega.{arith}
-use lib.Dec.{eqb}
-use lib.ListN.{length, take, drop, getD, set, length-take}
-use lib.Seq.{set-getD, take-all, take-take}
-use Rattle.table.specs.Table.{keep, length-keep}
-use Rattle.rules.specs.declared.Cid.{Cid}
+use lib.ListN.{take, drop, getD}
+use Rattle.table.specs.Table.{keep}
 use Rattle.discovery.specs.Store.{Leaf, held-by}
-use Rattle.discovery.specs.Leaves.{cut-leaf}
-use Rattle.discovery.specs.Rows.{leaves, leafAt, amount, owned, Packing, Packs, Pass, pass-start, pass-row, pass-few, pass-room, pass-skip, pass-put, pass-end, image-gone, image-kept, image-whole, image-less, leaf-same}
+use Rattle.discovery.specs.Rows.{leaves, leafAt, amount, owned, Pass, pass-start, pass-row, pass-few, pass-room, pass-skip, pass-put, pass-end, image-gone, image-kept}
 use borrow.Author.Needs.{needs}
 use Rattle.discovery.proofs.pages.drop_pages.Statement.{statement}
 use Rattle.discovery.proofs.pages.drop_pages.Tie as tie
-use Rattle.discovery.proofs.pages.drop_pages.Reads as reads
-use Rattle.discovery.proofs.pages.drop_pages.Lts as lts
-use Rattle.discovery.proofs.pool.move_down.Reads as move-down-reads
-use Rattle.discovery.proofs.rows.is_page_of.Reads as is-page-of-reads
 
 abbrev Inv-loop : tie.InvT-loop
 Inv-loop pages₀ universes₀ count mark cid kept₀ to₀ from₀ i₀ pages universes kept to from i = Pass count pages₀ universes₀ (keep (λ l. not (held-by mark cid l)) (leaves (take i pages₀) universes₀)) pages universes kept to from i

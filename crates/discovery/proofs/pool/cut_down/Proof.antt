@@ -7,16 +7,12 @@ use Prim.Native.Nat.{ℕ, _≤_, _<_, _-_, _+_}
 use native.Mathlib.Omega.{arith}
 use lib.Dec.{eqb}
 use lib.ListN.{length, take, drop, getD, length-set, length-append}
-use lib.Seq.{take-set-le, take-all, take-suc}
-use native.Mathlib.Numerals.{add-one}
 use borrow.Author.Tests.{eq-eqb, ne-eqb}
-use Rattle.table.specs.Table.{keep, length-keep}
-use Rattle.discovery.specs.Pool.{pushed, further, further-read, read-first, part-more, take-less, kept-more, kept-passed, moved-up}
+use Rattle.table.specs.Table.{keep}
+use Rattle.discovery.specs.Pool.{pushed, further, further-read, read-first, kept-more, kept-passed}
 use borrow.Author.Needs.{needs}
 use Rattle.discovery.proofs.pool.cut_down.Statement.{statement}
 use Rattle.discovery.proofs.pool.cut_down.Tie as tie
-use Rattle.discovery.proofs.pool.cut_down.Reads as reads
-use Rattle.discovery.proofs.pool.cut_down.Lts as lts
 
 abbrev Inv-loop : tie.InvT-loop
 Inv-loop universes₀ to from n universe kept₀ i₀ universes kept i =

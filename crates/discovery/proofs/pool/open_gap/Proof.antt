@@ -1,22 +1,16 @@
 -- From the last to the first each is moved up by n; those before it are as they were.
 -- Assumes nothing.
-use mathlib.Core.Path.{_≡_, refl, sym, ap, _∙_}
-use mathlib.Core.Bool.{not}
-use mathlib.Core.List.{List, _++_, _∷_, [], append-assoc, append-nil}
+use mathlib.Core.Path.{_≡_, refl, sym, _∙_}
+use mathlib.Core.List.{List, []}
 use Prim.Native.Nat.{ℕ, _≤_, _-_, _+_}
 use native.Mathlib.Omega.{arith}
-use lib.Dec.{eqb}
-use lib.ListN.{length, take, drop, getD, length-set, length-append}
-use lib.Seq.{take-set-le, take-all, take-suc}
-use native.Mathlib.Numerals.{add-one}
-use borrow.Author.Tests.{eq-eqb, ne-eqb}
+use lib.ListN.{length, take, drop, getD, length-set}
+use lib.Seq.{take-set-le}
 use Rattle.table.specs.Arrays.{spent}
-use Rattle.discovery.specs.Pool.{pushed, further, further-read, read-first, part-more, take-less, moved-up}
+use Rattle.discovery.specs.Pool.{take-less, moved-up}
 use borrow.Author.Needs.{needs}
 use Rattle.discovery.proofs.pool.open_gap.Statement.{statement}
 use Rattle.discovery.proofs.pool.open_gap.Tie as tie
-use Rattle.discovery.proofs.pool.open_gap.Reads as reads
-use Rattle.discovery.proofs.pool.open_gap.Lts as lts
 
 abbrev Inv-loop : tie.InvT-loop
 Inv-loop universes₀ used at n i₀ universes i =

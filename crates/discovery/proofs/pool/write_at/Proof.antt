@@ -1,22 +1,16 @@
 -- Each turn pushes the next of the list behind those written.
 -- Assumes nothing.
 use mathlib.Core.Path.{_≡_, refl, sym, ap, _∙_}
-use mathlib.Core.Bool.{true, false, not}
 use mathlib.Core.List.{List, _++_, _∷_, [], append-assoc, append-nil}
-use Prim.Native.Nat.{ℕ, _≤_, _<_, _-_, _+_}
+use Prim.Native.Nat.{ℕ, _≤_, _-_, _+_}
 use native.Mathlib.Omega.{arith}
-use lib.Dec.{eqb}
-use lib.ListN.{length, take, drop, getD, length-set, length-append}
-use lib.Seq.{take-set-le, take-all, take-suc}
+use lib.ListN.{length, take, drop, getD, length-set}
+use lib.Seq.{take-all, take-suc}
 use native.Mathlib.Numerals.{add-one}
-use borrow.Author.Tests.{eq-eqb, ne-eqb}
-use Rattle.table.specs.Table.{keep, length-keep}
-use Rattle.discovery.specs.Pool.{pushed, further, further-read, read-first, part-more, take-less, kept-more, kept-passed, moved-up}
+use Rattle.discovery.specs.Pool.{pushed, further}
 use borrow.Author.Needs.{needs}
 use Rattle.discovery.proofs.pool.write_at.Statement.{statement}
 use Rattle.discovery.proofs.pool.write_at.Tie as tie
-use Rattle.discovery.proofs.pool.write_at.Reads as reads
-use Rattle.discovery.proofs.pool.write_at.Lts as lts
 
 abbrev Inv-loop : tie.InvT-loop
 Inv-loop universes₀ at list i₀ universes i =

@@ -1,21 +1,17 @@
 -- What is counted and what is left to count make up the whole.
 -- Assumes nothing.
-use mathlib.Core.Path.{_≡_, refl, sym, ap, _∙_}
+use mathlib.Core.Path.{_≡_, sym, _∙_}
 use mathlib.Core.Bool.{true, false}
 use mathlib.Core.List.{[]}
-use Prim.Native.Nat.{ℕ, suc, _≤_, _-_, _+_}
+use Prim.Native.Nat.{_≤_, _-_, _+_}
 use native.Mathlib.Omega.{arith}
 use lib.ListN.{length, take, drop, getD}
 use Rattle.table.specs.Table.{keep}
 use Rattle.table.specs.Arrays.{spent}
-use Rattle.discovery.specs.Rows.{owned}
-use Rattle.discovery.specs.Reads.{nth, nth-here, nth-past, nth-over, count-one, count-none, marked-row}
+use Rattle.discovery.specs.Reads.{count-one, count-none, marked-row}
 use borrow.Author.Needs.{needs}
 use Rattle.discovery.proofs.rows.count_sources.Statement.{statement}
 use Rattle.discovery.proofs.rows.count_sources.Tie as tie
-use Rattle.discovery.proofs.rows.count_sources.Reads as reads
-use Rattle.discovery.proofs.rows.count_sources.Lts as lts
-use Rattle.discovery.proofs.rows.is_marked.Reads as is-marked-reads
 
 abbrev Inv-loop : tie.InvT-loop
 Inv-loop sources count mark n₀ i₀ n i = (i ≤ count) × (n ≤ i) × (n + length (keep (marked-row mark) (drop i (take count sources))) ≡ length (keep (marked-row mark) (take count sources)))

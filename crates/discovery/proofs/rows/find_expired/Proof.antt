@@ -1,22 +1,17 @@
 -- The walk so far has passed only rows that fail the test: the place is what is passed and what is left of the walk.
 -- Assumes nothing.
-use mathlib.Core.Path.{_≡_, refl, sym, ap, _∙_}
+use mathlib.Core.Path.{_≡_, sym, _∙_}
 use mathlib.Core.Bool.{true, false, not}
 use mathlib.Core.List.{[]}
-use Prim.Native.Nat.{ℕ, _≤_, _<_, _-_, _+_}
+use Prim.Native.Nat.{_≤_, _-_, _+_}
 use native.Mathlib.Omega.{arith}
-use lib.ListN.{length, take, drop, getD}
+use lib.ListN.{take, drop, getD}
 use Rattle.table.specs.Place.{prefix}
 use Rattle.table.specs.Arrays.{prefix-stays, prefix-goes, spent}
-use Rattle.discovery.specs.Discovery.{swept}
-use Rattle.discovery.specs.View.{Kept, discoveredOf}
-use Rattle.discovery.specs.Sweep.{fresh, universe-ended, old-row, sweep-done, sweep-mark, sweep-there, sweep-turn}
+use Rattle.discovery.specs.Sweep.{old-row}
 use borrow.Author.Needs.{needs}
 use Rattle.discovery.proofs.rows.find_expired.Statement.{statement}
 use Rattle.discovery.proofs.rows.find_expired.Tie as tie
-use Rattle.discovery.proofs.rows.find_expired.Reads as reads
-use Rattle.discovery.proofs.rows.find_expired.Lts as lts
-use Rattle.rules.proofs.has_aged.Reads as has-aged-reads
 
 abbrev Inv-loop : tie.InvT-loop
 Inv-loop sources count time reading i₀ i = (i ≤ count) × (i + prefix (λ row. not (old-row time reading row)) (drop i (take count sources)) ≡ prefix (λ row. not (old-row time reading row)) (take count sources))

@@ -1,27 +1,17 @@
 -- The walk so far has passed only rows that fail the test: the place is what is passed and what is left of the walk.
 -- Assumes nothing.
-use mathlib.Core.Path.{_≡_, refl, sym, ap, _∙_}
-use mathlib.Core.Bool.{Bool, true, false, not, cond, _&&_}
-use mathlib.Core.List.{List, _++_, _∷_, [], map, append-assoc, append-nil}
-use Prim.Native.Nat.{ℕ, suc, _≤_, _<_, _-_, _+_, _*_}
+use mathlib.Core.Path.{_≡_, sym, _∙_}
+use mathlib.Core.Bool.{true, false, not}
+use mathlib.Core.List.{[]}
+use Prim.Native.Nat.{_≤_, _-_, _+_}
 use native.Mathlib.Omega.{arith}
-use native.Mathlib.Numerals.{add-one}
-use lib.Dec.{eqb, ltb}
-use lib.ListN.{length, take, drop, getD, set, length-set, length-append, length-take}
-use lib.Seq.{take-set-le, take-all, take-suc, take-take}
-use borrow.Author.Tests.{eq-eqb, ne-eqb, lt-ltb, le-ltb}
-use Rattle.table.specs.Place.{prefix, insertAt, removeAt}
-use Rattle.table.specs.Arrays.{prefix-stays, prefix-goes, spent, move, carry, laid, next}
-use Rattle.rules.specs.Cid.{same}
-use Rattle.discovery.specs.Store.{owner}
-use Rattle.discovery.specs.Rows.{owned, larger, total, amount, Few, in-turn, turned-row, taken-more, total-more, few-at, map-more, in-turn-skip, in-turn-row, in-turn-miss, in-turn-done, in-turn-none}
-use Rattle.discovery.specs.Pool.{pushed, further-read, further, read-first}
+use lib.ListN.{take, drop, getD}
+use Rattle.table.specs.Place.{prefix}
+use Rattle.table.specs.Arrays.{prefix-stays, prefix-goes, spent}
+use Rattle.discovery.specs.Rows.{owned}
 use borrow.Author.Needs.{needs}
 use Rattle.discovery.proofs.rows.find_source.Statement.{statement}
 use Rattle.discovery.proofs.rows.find_source.Tie as tie
-use Rattle.discovery.proofs.rows.find_source.Reads as reads
-use Rattle.discovery.proofs.rows.find_source.Lts as lts
-use Rattle.discovery.proofs.rows.is_source_of.Reads as is-source-of-reads
 
 abbrev Inv-loop : tie.InvT-loop
 Inv-loop sources count mark cid i₀ i = (i ≤ count) × (i + prefix (λ row. not (owned mark cid row)) (drop i (take count sources)) ≡ prefix (λ row. not (owned mark cid row)) (take count sources))

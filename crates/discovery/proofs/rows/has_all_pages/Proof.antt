@@ -1,27 +1,18 @@
 -- What is left to test of the rows not yet passed is what was to be tested of all.
 -- Assumes nothing.
-use mathlib.Core.Path.{_≡_, refl, sym, ap, _∙_}
-use mathlib.Core.Bool.{Bool, true, false, not, cond, _&&_}
-use mathlib.Core.List.{List, _++_, _∷_, [], map, append-assoc, append-nil}
-use Prim.Native.Nat.{ℕ, suc, _≤_, _<_, _-_, _+_, _*_}
+use mathlib.Core.Path.{_≡_, sym, ap, _∙_}
+use mathlib.Core.Bool.{true, false}
+use mathlib.Core.List.{[]}
+use Prim.Native.Nat.{ℕ, suc, _≤_, _-_, _+_}
 use native.Mathlib.Omega.{arith}
-use native.Mathlib.Numerals.{add-one}
-use lib.Dec.{eqb, ltb}
-use lib.ListN.{length, take, drop, getD, set, length-set, length-append, length-take}
-use lib.Seq.{take-set-le, take-all, take-suc, take-take}
-use borrow.Author.Tests.{eq-eqb, ne-eqb, lt-ltb, le-ltb}
-use Rattle.table.specs.Place.{prefix, insertAt, removeAt}
-use Rattle.table.specs.Arrays.{prefix-stays, prefix-goes, spent, move, carry, laid, next}
-use Rattle.rules.specs.Cid.{same}
-use Rattle.discovery.specs.Store.{owner}
-use Rattle.discovery.specs.Rows.{owned, larger, total, amount, Few, in-turn, turned-row, taken-more, total-more, few-at, map-more, in-turn-skip, in-turn-row, in-turn-miss, in-turn-done, in-turn-none}
-use Rattle.discovery.specs.Pool.{pushed, further-read, further, read-first}
+use lib.Dec.{eqb}
+use lib.ListN.{take, drop, getD}
+use borrow.Author.Tests.{eq-eqb, ne-eqb}
+use Rattle.table.specs.Arrays.{spent, next}
+use Rattle.discovery.specs.Rows.{owned, in-turn, in-turn-skip, in-turn-row, in-turn-miss, in-turn-done, in-turn-none}
 use borrow.Author.Needs.{needs}
 use Rattle.discovery.proofs.rows.has_all_pages.Statement.{statement}
 use Rattle.discovery.proofs.rows.has_all_pages.Tie as tie
-use Rattle.discovery.proofs.rows.has_all_pages.Reads as reads
-use Rattle.discovery.proofs.rows.has_all_pages.Lts as lts
-use Rattle.discovery.proofs.rows.is_page_of.Reads as is-page-of-reads
 
 abbrev Inv-loop : tie.InvT-loop
 Inv-loop pages count cid last-page next₀ i₀ next i = (i ≤ count) × (next ≤ i) × (in-turn cid next (suc last-page - next) (drop i (take count pages)) ≡ in-turn cid 0 (suc last-page) (take count pages))

@@ -1,21 +1,16 @@
 -- The place is what is passed and what is left of the walk.
 -- Assumes nothing.
-use mathlib.Core.Path.{_≡_, refl, sym, ap, _∙_}
+use mathlib.Core.Path.{_≡_, sym, ap, _∙_}
 use mathlib.Core.Bool.{true, false}
 use mathlib.Core.List.{[]}
 use Prim.Native.Nat.{ℕ, suc, _≤_, _-_, _+_}
 use native.Mathlib.Omega.{arith}
-use lib.ListN.{length, take, drop, getD}
-use Rattle.table.specs.Table.{keep}
+use lib.ListN.{take, drop, getD}
 use Rattle.table.specs.Arrays.{spent}
-use Rattle.discovery.specs.Rows.{owned}
-use Rattle.discovery.specs.Reads.{nth, nth-here, nth-past, nth-over, count-one, count-none, marked-row}
+use Rattle.discovery.specs.Reads.{nth, nth-here, nth-past, nth-over, marked-row}
 use borrow.Author.Needs.{needs}
 use Rattle.discovery.proofs.rows.nth_source.Statement.{statement}
 use Rattle.discovery.proofs.rows.nth_source.Tie as tie
-use Rattle.discovery.proofs.rows.nth_source.Reads as reads
-use Rattle.discovery.proofs.rows.nth_source.Lts as lts
-use Rattle.discovery.proofs.rows.is_marked.Reads as is-marked-reads
 
 abbrev Inv-loop : tie.InvT-loop
 Inv-loop sources count mark k left₀ i₀ left i = (i ≤ count) × (i + nth (marked-row mark) left (drop i (take count sources)) ≡ nth (marked-row mark) k (take count sources))

@@ -1,26 +1,17 @@
 -- Each later row moves one place down.
 -- Assumes nothing.
-use mathlib.Core.Path.{_≡_, refl, sym, ap, _∙_}
-use mathlib.Core.Bool.{Bool, true, false, not, cond, _&&_}
-use mathlib.Core.List.{List, _++_, _∷_, [], map, append-assoc, append-nil}
-use Prim.Native.Nat.{ℕ, suc, _≤_, _<_, _-_, _+_, _*_}
+use mathlib.Core.Path.{_≡_, sym, ap, _∙_}
+use mathlib.Core.List.{List, _++_, [], append-nil}
+use Prim.Native.Nat.{ℕ, _≤_, _-_, _+_}
 use native.Mathlib.Omega.{arith}
 use native.Mathlib.Numerals.{add-one}
-use lib.Dec.{eqb, ltb}
-use lib.ListN.{length, take, drop, getD, set, length-set, length-append, length-take}
-use lib.Seq.{take-set-le, take-all, take-suc, take-take}
-use borrow.Author.Tests.{eq-eqb, ne-eqb, lt-ltb, le-ltb}
-use Rattle.table.specs.Place.{prefix, insertAt, removeAt}
-use Rattle.table.specs.Arrays.{prefix-stays, prefix-goes, spent, move, carry, laid, next}
-use Rattle.rules.specs.Cid.{same}
-use Rattle.discovery.specs.Store.{owner}
-use Rattle.discovery.specs.Rows.{owned, larger, total, amount, Few, in-turn, turned-row, taken-more, total-more, few-at, map-more, in-turn-skip, in-turn-row, in-turn-miss, in-turn-done, in-turn-none}
-use Rattle.discovery.specs.Pool.{pushed, further-read, further, read-first}
+use lib.ListN.{length, take, drop, length-set}
+use lib.Seq.{take-take}
+use Rattle.table.specs.Place.{removeAt}
+use Rattle.table.specs.Arrays.{spent, move}
 use borrow.Author.Needs.{needs}
 use Rattle.discovery.proofs.rows.remove_source.Statement.{statement}
 use Rattle.discovery.proofs.rows.remove_source.Tie as tie
-use Rattle.discovery.proofs.rows.remove_source.Reads as reads
-use Rattle.discovery.proofs.rows.remove_source.Lts as lts
 
 abbrev Inv-loop : tie.InvT-loop
 Inv-loop sources₀ count at last to₀ sources to = (to ≤ last) × (length sources ≡ 64) × (take to sources ++ drop (to + 1) (take count sources) ≡ removeAt at (take count sources₀))
