@@ -6,15 +6,14 @@ mod rows;
 ghost use mathlib.Core.Path.{_≡_};
 ghost use mathlib.Core.Bool.{true, false, not};
 ghost use mathlib.Core.List.{List};
+ghost use mathlib.Core.Option.{some};
 ghost use Prim.Native.Nat.{ℕ, _+_, _≤_, _<_};
-ghost use lib.ListN.{length, take};
+ghost use lib.ListN.{length, take, getD};
 ghost use Rattle.table.specs.Table.{any};
 ghost use Rattle.table.specs.Place.{prefix};
 ghost use Rattle.discovery.specs.Store.{heads-of, pages-at, sources-at};
-ghost use lib.ListN.{getD};
-ghost use Rattle.discovery.specs.Rows.{owned};
+ghost use Rattle.discovery.specs.Rows.{owned, total, Few};
 ghost use Rattle.discovery.specs.Reads.{source-of-row, page-of-row};
-ghost use mathlib.Core.Option.{some};
 ghost use Rattle.discovery.specs.Discovery.{Page, Source, lookup, begun, extended, extend, list, noting, taken, ended, swept, nothing-known};
 ghost use Rattle.discovery.specs.Moves.{with-source};
 ghost use Rattle.discovery.specs.Arrive.{Took, Arrival};
@@ -31,6 +30,7 @@ use crate::rows::has_all_pages;
 use crate::rows::name_row;
 use crate::rows::nth_page;
 use crate::rows::nth_source;
+use crate::rows::offset;
 use crate::rows::remove_name;
 use crate::rows::remove_source;
 use crate::rows::turn_pages;
@@ -476,5 +476,13 @@ impl Discovery {
         ensures { λ r. ⌜ ((universes : List ℕ) (other : Page) → k < length (pages-at mark (leavesOf self (now (pages .entry)) universes) cid) → (r < self .«page_count») × (getD (pages-at mark (leavesOf self (now (pages .entry)) universes) cid) k other ≡ page-of-row (now (pages .entry)) universes r)) ⌝ }
     {
         nth_page(pages, self.page_count, mark, cid, k)
+    }
+
+    // Where in the pool the universes of the page in this row begin.
+    pub fn page_offset(self, pages: &[[u64; 5]; 64], at: usize) -> usize
+        requires { ⌜ (at ≤ 64) × (length (now pages) ≡ 64) × Few (take at (now pages)) ⌝ }
+        ensures { λ r. ⌜ r ≡ total (take at (now (pages .entry))) ⌝ }
+    {
+        offset(pages, at)
     }
 }
