@@ -1,6 +1,137 @@
+//! The differential run: the crate's test copy against the port, on random or given replay scripts.
+
+mod compare;
 mod copy;
 mod mutants;
-fn main() {
-    let places = copy::Places::new();
-    println!("{:?}", copy::build(&places, None));
+mod rng;
+mod scripts;
+
+use compare::{Counts, Side, compare_many, compare_one, shrink};
+use copy::Places;
+use std::process::ExitCode;
+use std::time::Instant;
+
+const BATCH: u64 = 100;
+
+fn main() -> ExitCode {
+    let arguments: Vec<String> = std::env::args().skip(1).collect();
+    let words: Vec<&str> = arguments.iter().map(String::as_str).collect();
+    let result = match words[..] {
+        ["run", ref rest @ ..] => run(rest),
+        ["script", kind, seed, number] => print_script(kind, seed, number),
+        ["driver"] => driver(),
+        ["kinds"] => {
+            scripts::KINDS.iter().for_each(|(kind, what)| println!("{kind}: {what}"));
+            Ok(true)
+        }
+        _ => Err("unknown arguments".into()),
+    };
+    match result {
+        Ok(true) => ExitCode::SUCCESS,
+        Ok(false) => ExitCode::from(1),
+        Err(why) => {
+            eprintln!("{why}");
+            ExitCode::from(2)
+        }
+    }
+}
+
+fn parsed(word: Option<&&str>, default: u64) -> Result<u64, String> {
+    word.map_or(Ok(default), |w| w.parse().map_err(|_| format!("not a number: {w}")))
+}
+
+fn reference(places: &Places) -> Result<Side, String> {
+    let path = copy::build(places, None)?;
+    Ok(Side { command: vec![path.display().to_string()] })
+}
+
+fn driver() -> Result<bool, String> {
+    println!("{}", reference(&Places::new())?.command[0]);
+    Ok(true)
+}
+
+fn print_script(kind: &str, seed: &str, number: &str) -> Result<bool, String> {
+    let (seed, number) = (parsed(Some(&seed), 0)?, parsed(Some(&number), 0)?);
+    scripts::script(kind, seed, number, false).iter().for_each(|l| println!("{l}"));
+    Ok(true)
+}
+
+fn run(words: &[&str]) -> Result<bool, String> {
+    let places = Places::new();
+    let reference = reference(&places)?;
+    let port = Side::new(&std::env::var("PORT").unwrap_or("target/bin/replay".into()));
+    if let Some(path) = words.first()
+        && path.parse::<u64>().is_err()
+    {
+        return own_script(path, &reference, &port);
+    }
+    let (count, seed) = (parsed(words.first(), 200)?, parsed(words.get(1), 1)?);
+    let start = Instant::now();
+    let mut counts = Counts::default();
+    for (kind, _) in scripts::KINDS {
+        // Scripts of the kind `full` are long: a tenth as many.
+        let wanted = if *kind == "full" { count.div_ceil(10) } else { count };
+        let mut made = 0;
+        while made < wanted {
+            let size = BATCH.min(wanted - made);
+            let batch: Vec<Vec<String>> =
+                (made..made + size).map(|i| scripts::script(kind, seed, i, false)).collect();
+            if let Some(i) = compare_many(&batch, &reference, &port, true, &mut counts)? {
+                println!("{kind}, seed {seed}, script {}: a difference", made + i as u64);
+                report(&places, &batch[i], &reference, &port)?;
+                return Ok(false);
+            }
+            made += size;
+        }
+        println!(
+            "{kind}: {wanted} scripts, no difference ({} commands, {:.0} s so far)",
+            counts.commands,
+            start.elapsed().as_secs_f64()
+        );
+    }
+    counts.print();
+    Ok(true)
+}
+
+fn own_script(path: &str, reference: &Side, port: &Side) -> Result<bool, String> {
+    let text = std::fs::read_to_string(path).map_err(|e| format!("{path}: {e}"))?;
+    let script: Vec<String> = text.lines().map(String::from).collect();
+    let mut counts = Counts::default();
+    let difference = compare_one(&script, reference, port, true, &mut counts)?;
+    if let Some(d) = &difference {
+        println!("line {}: {}: {}", d.place + 1, d.why, script[d.place]);
+        print_both(&script[..=d.place], reference, port)?;
+    } else {
+        println!("no difference");
+    }
+    counts.print();
+    Ok(difference.is_none())
+}
+
+// The last command's answers on both sides.
+fn print_both(script: &[String], reference: &Side, port: &Side) -> Result<(), String> {
+    let text: String = script.iter().map(|l| format!("{l}\n")).collect();
+    for (name, side) in [("crate", reference), ("port", port)] {
+        let output = side.run(&text)?;
+        let mut answers = compare::Answers::new(&output);
+        let mut last = None;
+        for command in script.iter().filter(|c| !compare::is_silent(c)) {
+            last = answers.next(command);
+        }
+        println!("-- {name}\n{}", last.unwrap_or("(no answer)"));
+    }
+    Ok(())
+}
+
+fn report(places: &Places, script: &[String], reference: &Side, port: &Side) -> Result<(), String> {
+    let small = shrink(script, reference, port, true);
+    let text: String = small.iter().map(|l| format!("{l}\n")).collect();
+    for (name, side) in [("crate", reference), ("port", port)] {
+        let path = places.work.join(format!("difference.{name}"));
+        std::fs::write(&path, side.run(&text)?).map_err(|e| e.to_string())?;
+    }
+    let path = places.work.join("difference.script");
+    std::fs::write(&path, &text).map_err(|e| e.to_string())?;
+    println!("-- script ({}; the answers beside it)\n{text}", path.display());
+    print_both(&small, reference, port)
 }
