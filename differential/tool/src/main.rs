@@ -20,6 +20,7 @@ fn main() -> ExitCode {
         ["run", ref rest @ ..] => run(rest),
         ["script", kind, seed, number] => print_script(kind, seed, number),
         ["driver"] => driver(),
+        ["mutants", ref rest @ ..] => try_mutants(rest),
         ["kinds"] => {
             scripts::KINDS.iter().for_each(|(kind, what)| println!("{kind}: {what}"));
             Ok(true)
@@ -134,4 +135,60 @@ fn report(places: &Places, script: &[String], reference: &Side, port: &Side) -> 
     std::fs::write(&path, &text).map_err(|e| e.to_string())?;
     println!("-- script ({}; the answers beside it)\n{text}", path.display());
     print_both(&small, reference, port)
+}
+
+// The scripts of a mutant's trial: the kinds in turn.
+fn trial(number: u64) -> Vec<String> {
+    let kinds = scripts::KINDS.len() as u64;
+    let (kind, _) = scripts::KINDS[(number % kinds) as usize];
+    scripts::script(kind, 1, number / kinds, false)
+}
+
+// Builds each mutant and runs it against the reference. The second word picks mutants by a part of their name.
+fn try_mutants(words: &[&str]) -> Result<bool, String> {
+    let places = Places::new();
+    let reference = reference(&places)?;
+    let count = parsed(words.first(), 390)?;
+    let wanted = words.get(1).unwrap_or(&"");
+    let trials: Vec<Vec<String>> = (0..count).map(trial).collect();
+    let mut survivors = 0;
+    let mut latest = 0;
+    let mut tried = 0;
+    for (mutants, equivalent) in [(mutants::MUTANTS, false), (mutants::EQUIVALENT, true)] {
+        for mutant in mutants.iter().filter(|m| m.name.contains(wanted)) {
+            let found = try_mutant(&places, mutant, &reference, &trials)?;
+            let shown = match found {
+                Some(i) => format!("script {}, {}", i + 1, scripts::KINDS[i % scripts::KINDS.len()].0),
+                None if equivalent => "not found, as it should be".into(),
+                None => "NOT FOUND".into(),
+            };
+            println!("| {} | {} | {shown} |", mutant.name, mutant.what);
+            tried += 1;
+            survivors += usize::from(found.is_some() == equivalent);
+            if !equivalent {
+                latest = latest.max(found.map_or(0, |i| i + 1));
+            }
+        }
+    }
+    println!("{tried} mutants, {survivors} not as they should be; the last was found by script {latest} of {count}");
+    Ok(survivors == 0)
+}
+
+fn try_mutant(
+    places: &Places,
+    mutant: &mutants::Mutant,
+    reference: &Side,
+    trials: &[Vec<String>],
+) -> Result<Option<usize>, String> {
+    let path = copy::build(places, Some(mutant))?;
+    let side = Side { command: vec![path.display().to_string()] };
+    let mut counts = Counts::default();
+    let mut done = 0;
+    for batch in trials.chunks(scripts::KINDS.len()) {
+        if let Some(i) = compare_many(batch, reference, &side, false, &mut counts)? {
+            return Ok(Some(done + i));
+        }
+        done += batch.len();
+    }
+    Ok(None)
 }
