@@ -4,6 +4,7 @@ mod compare;
 mod copy;
 mod mutants;
 mod rng;
+mod sample;
 mod scripts;
 
 use compare::{Counts, Side, compare_many, compare_one, shrink};
@@ -20,6 +21,7 @@ fn main() -> ExitCode {
         ["run", ref rest @ ..] => run(rest),
         ["script", kind, seed, number] => print_script(kind, seed, number),
         ["driver"] => driver(),
+        ["sample", count, script, output] => record(count, script, output),
         ["mutants", ref rest @ ..] => try_mutants(rest),
         ["kinds"] => {
             scripts::KINDS.iter().for_each(|(kind, what)| println!("{kind}: {what}"));
@@ -144,21 +146,55 @@ fn trial(number: u64) -> Vec<String> {
     scripts::script(kind, 1, number / kinds, false)
 }
 
+// The scripts of a file, each of which begins with `fresh`.
+fn scripts_of(path: &str) -> Result<Vec<Vec<String>>, String> {
+    let text = std::fs::read_to_string(path).map_err(|e| format!("{path}: {e}"))?;
+    let mut scripts: Vec<Vec<String>> = Vec::new();
+    for line in text.lines() {
+        if line == "fresh" || scripts.is_empty() {
+            scripts.push(Vec::new());
+        }
+        if line != "fresh" {
+            scripts.last_mut().expect("a script").push(line.into());
+        }
+    }
+    Ok(scripts)
+}
+
+fn record(count: &str, script: &str, output: &str) -> Result<bool, String> {
+    let reference = reference(&Places::new())?;
+    let (text, answers) = sample::choose(parsed(Some(&count), 0)? as usize, &reference)?;
+    std::fs::write(script, text).map_err(|e| format!("{script}: {e}"))?;
+    std::fs::write(output, answers).map_err(|e| format!("{output}: {e}"))?;
+    Ok(true)
+}
+
 // Builds each mutant and runs it against the reference. The second word picks mutants by a part of their name.
 fn try_mutants(words: &[&str]) -> Result<bool, String> {
     let places = Places::new();
     let reference = reference(&places)?;
-    let count = parsed(words.first(), 390)?;
     let wanted = words.get(1).unwrap_or(&"");
-    let trials: Vec<Vec<String>> = (0..count).map(trial).collect();
+    let (trials, named): (Vec<Vec<String>>, bool) = match words.first() {
+        Some(path) if path.parse::<u64>().is_err() => (scripts_of(path)?, false),
+        count => ((0..parsed(count, 390)?).map(trial).collect(), true),
+    };
+    let count = trials.len();
     let mut survivors = 0;
     let mut latest = 0;
     let mut tried = 0;
     for (mutants, equivalent) in [(mutants::MUTANTS, false), (mutants::EQUIVALENT, true)] {
         for mutant in mutants.iter().filter(|m| m.name.contains(wanted)) {
-            let found = try_mutant(&places, mutant, &reference, &trials)?;
+            let found = match try_mutant(&places, mutant, &reference, &trials) {
+                Ok(found) => found,
+                Err(why) => {
+                    println!("| {} | {} | {why} |", mutant.name, mutant.what);
+                    survivors += 1;
+                    continue;
+                }
+            };
             let shown = match found {
-                Some(i) => format!("script {}, {}", i + 1, scripts::KINDS[i % scripts::KINDS.len()].0),
+                Some(i) if named => format!("script {}, {}", i + 1, scripts::KINDS[i % scripts::KINDS.len()].0),
+                Some(i) => format!("script {}", i + 1),
                 None if equivalent => "not found, as it should be".into(),
                 None => "NOT FOUND".into(),
             };

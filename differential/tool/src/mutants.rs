@@ -74,7 +74,7 @@ pub const MUTANTS: &[Mutant] = &[
     // Number rules.
     m("refuse-minus-20", "difference -20 refused", "let seq_diff", "> E131_SEQ_DIFF", ">= E131_SEQ_DIFF"),
     packet("accept-minus-19", "difference -19 accepted", "const E131_SEQ_DIFF_DISCARD_LOWER_BOUND", "-20", "-19"),
-    m("accept-0", "difference 0 accepted", "let seq_diff", "<= E131_SEQ_DIFF", "< E131_SEQ_DIFF"),
+    m("accept-0", "difference 0 accepted", "let seq_diff", "<= E131_SEQ_DIFF", "<= -1 + E131_SEQ_DIFF"),
     packet("refuse-1", "difference 1 refused", "const E131_SEQ_DIFF_DISCARD_UPPER_BOUND", "= 0", "= 1"),
     m("no-modulo", "the difference isn't taken modulo 256", "let seq_diff",
         "sequence_number.wrapping_sub(expected_seq.sequence_number) as i8",
@@ -275,7 +275,7 @@ pub const MUTANTS: &[Mutant] = &[
     m("last-alone", "a first page that is the last lists", "fn handle_universe_discovery_packet", "if page == 0 && page == last_page {", "if page == last_page {"),
     m("page-0-alone", "a first page 0 lists", "fn handle_universe_discovery_packet", "if page == 0 && page == last_page {", "if page == 0 {"),
     m("single-first", "page 0 with last page 0 always lists by itself", "fn handle_universe_discovery_packet",
-        "Some(index) => {", "Some(index) if !(page == 0 && last_page == 0) => {"),
+        "&cid\n        ) {", "&cid\n        ).filter(|_| !(page == 0 && last_page == 0)) {"),
     m("page-reading-kept", "a further page keeps the reading", "fn handle_universe_discovery_packet",
         "self.partially_discovered_sources[index].last_updated = Instant::now();", ""),
     m("repeat-replaces", "a repeated page replaces the older", "fn handle_universe_discovery_packet",

@@ -169,6 +169,7 @@ fn choice(kind: &str) -> Choice {
             boundary: 8,
             aim: 3,
             odd_universe: 8,
+            want_preview: 35,
             limited: 5,
             sources: 3,
             universes: 4,
@@ -280,9 +281,13 @@ pub fn script(kind: &str, seed: u64, number: u64, short: bool) -> Vec<String> {
     for b in kind.bytes() {
         mixed = Rng::new(mixed.next() ^ u64::from(b));
     }
-    let rng = Rng::new(mixed.next().wrapping_add(number.wrapping_mul(0x9e37_79b9_7f4a_7c15)));
+    let mut rng = Rng::new(Rng::new(mixed.next() ^ number).next());
     let full = kind == "full";
-    let choice = choice(if full { "mixed" } else { kind });
+    let mut choice = choice(if full { "mixed" } else { kind });
+    // Some scripts have none of what hinders a merge, some have much of it.
+    choice.empty *= rng.pick(&[0, 1, 1, 5]);
+    choice.unlike *= rng.pick(&[0, 1, 1, 5]);
+    choice.priority = rng.pick(&[0, choice.priority, choice.priority, 60]);
     let mut script = Script::new(rng, choice, kind == "clock");
     if full {
         script.full(short);
@@ -413,7 +418,8 @@ impl Script {
                 self.say(format!("poll {now}"));
             }
             4 => {
-                let now = self.tick();
+                // The clock may fall back behind an aimed sweep, so that little else expires with it.
+                let now = if self.rng.percent(50) { self.aimed() } else { self.tick() };
                 self.say(format!("sweep {now}"));
             }
             5 => {
@@ -447,11 +453,7 @@ impl Script {
         let rest = 100 - (c.still + c.aim + c.fall + c.leap).min(99);
         match self.rng.weighted(&[c.still, c.aim, c.fall, c.leap, rest]) {
             0 => {}
-            1 => {
-                let stored = self.rng.pick(&self.readings);
-                let ahead = self.rng.pick(&[2499, 2500, 2500, 2501]);
-                self.now = stored.saturating_add(ahead);
-            }
+            1 => self.now = self.aimed(),
             2 => {
                 let back = self.rng.pick(&[1, 10, 100, 2499, 2500, 2501, 10_000]);
                 self.now = self.now.saturating_sub(back);
@@ -476,6 +478,13 @@ impl Script {
             }
         }
         self.now
+    }
+
+    // A reading at which something stored is 2,499 to 2,501 old.
+    fn aimed(&mut self) -> u64 {
+        let stored = self.rng.pick(&self.readings);
+        let ahead = self.rng.pick(&[2499, 2500, 2500, 2501]);
+        stored.saturating_add(ahead)
     }
 
     fn universe(&mut self) -> u16 {
