@@ -176,7 +176,7 @@ fn try_mutants(words: &[&str]) -> Result<bool, String> {
     let wanted = words.get(1).unwrap_or(&"");
     let (trials, named): (Vec<Vec<String>>, bool) = match words.first() {
         Some(path) if path.parse::<u64>().is_err() => (scripts_of(path)?, false),
-        count => ((0..parsed(count, 390)?).map(trial).collect(), true),
+        count => ((0..parsed(count, 130)?).map(trial).collect(), true),
     };
     let count = trials.len();
     let mut survivors = 0;

@@ -123,7 +123,8 @@ fn choice(kind: &str) -> Choice {
             boundary: 75,
             synchronised: 25,
             terminated: 3,
-            aim: 4,
+            still: 70,
+            aim: 3,
             sources: 2,
             universes: 2,
             announce_timeout: 10,
@@ -184,6 +185,7 @@ fn choice(kind: &str) -> Choice {
             synchronised: 85,
             boundary: 4,
             terminated: 3,
+            still: 45,
             aim: 10,
             sources: 3,
             universes: 5,
@@ -204,6 +206,7 @@ fn choice(kind: &str) -> Choice {
             empty: 5,
             unlike: 6,
             highest: 80,
+            still: 55,
             fall: 12,
             aim: 3,
             priority: 35,
@@ -219,8 +222,8 @@ fn choice(kind: &str) -> Choice {
             sweep: 6,
             reset: 1,
             terminated: 50,
-            aim: 12,
-            sources: 4,
+            aim: 8,
+            sources: 5,
             universes: 5,
             ..base
         },
@@ -273,6 +276,8 @@ struct Script {
     last: HashMap<(bool, Cid, u16), u8>,
     names: Vec<Vec<u8>>,
     plans: HashMap<Cid, (u8, Vec<u8>)>,
+    // Whether discovery pages come without gaps, repeats and other strays.
+    tidy: bool,
 }
 
 /// The script of a kind, seed and number. A short one has some 12 to 30 commands instead of 60 to 150.
@@ -323,7 +328,7 @@ impl Script {
             2 => rng.next() >> rng.below(60),
             _ => 1000 + rng.below(100_000) as u64,
         };
-        let sources = rng.from_to(2, choice.sources.max(2));
+        let sources = rng.from_to(choice.sources.div_ceil(2).max(2), choice.sources);
         let cids = sources_of(&mut rng, sources);
         let mut pool = UNIVERSES;
         rng.shuffle(&mut pool);
@@ -344,6 +349,7 @@ impl Script {
             "Pult süd".as_bytes().to_vec(),
             vec![b'n'; rng.from_to(62, 63)],
         ];
+        let tidy = rng.percent(40);
         Script {
             rng,
             choice,
@@ -356,6 +362,7 @@ impl Script {
             last: HashMap::new(),
             names,
             plans: HashMap::new(),
+            tidy,
         }
     }
 
@@ -495,7 +502,8 @@ impl Script {
         match self.rng.below(10) {
             0..5 => self.universe(),
             5..8 => self.rng.pick(&self.addresses),
-            _ => self.rng.pick(&ODD_UNIVERSES),
+            8 => self.rng.pick(&ODD_UNIVERSES),
+            _ => 64214,
         }
     }
 
@@ -595,32 +603,33 @@ impl Script {
     fn discovery(&mut self) {
         let now = self.tick();
         let cid = self.rng.pick(&self.cids);
-        if !self.plans.contains_key(&cid) || self.rng.percent(4) {
-            let last = self.rng.pick(&[0, 1, 1, 1, 2, 2, 3]);
+        let strays = if self.tidy { 0 } else { 10 };
+        if !self.plans.contains_key(&cid) || self.rng.percent(strays / 2) {
+            let last = self.rng.pick(&[0, 0, 1, 1, 1, 2, 2, 3]);
             let mut pages: Vec<u8> = (0..=last).collect();
             if self.rng.percent(60) {
                 self.rng.shuffle(&mut pages);
             }
             // A gap, or a repeat of a page.
-            if self.rng.percent(12) {
+            if self.rng.percent(strays) {
                 pages.pop();
             }
-            if self.rng.percent(12) {
+            if self.rng.percent(strays) {
                 let again = self.rng.from_to(0, usize::from(last)) as u8;
                 pages.push(again);
             }
             self.plans.insert(cid, (last, pages));
         }
-        let (planned_last, pages) = self.plans.get_mut(&cid).expect("a plan");
-        let mut last = *planned_last;
+        let (planned, pages) = self.plans.get_mut(&cid).expect("a plan");
+        let mut last = *planned;
         let mut page = pages.pop().unwrap_or(0);
         if pages.is_empty() {
             self.plans.remove(&cid);
         }
-        if self.rng.percent(7) {
+        if self.rng.percent(strays) {
             last = self.rng.pick(&[0, 1, 2, 3, 255]);
         }
-        if self.rng.percent(7) {
+        if self.rng.percent(strays) {
             page = self.rng.pick(&[0, 0, 1, 1, 2, 3, 4, 5, 255]);
         }
         let name = if self.rng.percent(60) {
@@ -643,10 +652,11 @@ impl Script {
 
     fn listen(&mut self) {
         let length = self.rng.from_to(0, 4);
+        let odd = self.rng.pick(&[0, 1, 6]);
         let mut wanted: Vec<u16> = (0..length)
             .map(|_| match self.rng.below(12) {
-                0 => self.rng.pick(&ODD_UNIVERSES),
-                1..3 => self.rng.pick(&UNIVERSES),
+                _ if self.rng.below(12) < odd => self.rng.pick(&ODD_UNIVERSES),
+                0..3 => self.rng.pick(&UNIVERSES),
                 3..6 => self.rng.pick(&self.addresses),
                 _ => self.universe(),
             })
