@@ -22,7 +22,10 @@ pub struct Replay {
 }
 
 fn receiver(limit: Option<usize>) -> Result<SacnReceiver> {
-    SacnReceiver::with_ip(SocketAddr::from(([127, 0, 0, 1], ACN_SDT_MULTICAST_PORT)), limit)
+    SacnReceiver::with_ip(
+        SocketAddr::from(([127, 0, 0, 1], ACN_SDT_MULTICAST_PORT)),
+        limit,
+    )
 }
 
 impl Replay {
@@ -41,9 +44,7 @@ impl Replay {
         {
             return writeln!(out, "1 {length}");
         }
-        let full = self.limits
-            && matches!(command, Command::Discovery(_))
-            && 64 <= self.pages();
+        let full = self.limits && matches!(command, Command::Discovery(_)) && 64 <= self.pages();
         match self.call(command, full) {
             None => writeln!(out, "13"),
             Some(answer) => match self.over() {
@@ -78,7 +79,11 @@ impl Replay {
                 Ok(Done::Nothing)
             }
             Command::MergeHighest(on) => r
-                .set_merge_fn(if on { htp_dmx_merge } else { DEFAULT_MERGE_FUNC })
+                .set_merge_fn(if on {
+                    htp_dmx_merge
+                } else {
+                    DEFAULT_MERGE_FUNC
+                })
                 .map(|()| Done::Nothing),
             // The crate takes its limit when a receiver is made: make one, and hand its limit over.
             Command::Limit(limit) => receiver(limit.map(usize::from)).map(|made| {
@@ -144,7 +149,13 @@ impl Replay {
         dump_pairs("d", &r.sequences.data_sequences, out)?;
         dump_pairs("y", &r.sequences.sync_sequences, out)?;
         for (universe, w) in &r.waiting_data {
-            write!(out, "w {universe} {} {} {} ", w.sync_uni, w.priority, u8::from(w.preview))?;
+            write!(
+                out,
+                "w {universe} {} {} {} ",
+                w.sync_uni,
+                w.priority,
+                u8::from(w.preview)
+            )?;
             match w.src_cid {
                 Some(cid) => hex(cid.as_bytes(), out)?,
                 None => write!(out, "-")?,
@@ -275,7 +286,11 @@ fn record(data: &DMXData, bytes: &mut Vec<u8>) {
     bytes.extend([0x55, 0x44]);
     bytes.extend(data.universe.to_be_bytes());
     bytes.extend(data.sync_uni.to_be_bytes());
-    bytes.extend([data.priority, u8::from(data.preview), u8::from(data.src_cid.is_some())]);
+    bytes.extend([
+        data.priority,
+        u8::from(data.preview),
+        u8::from(data.src_cid.is_some()),
+    ]);
     bytes.extend(data.src_cid.map_or([0; 16], |cid| *cid.as_bytes()));
     bytes.extend(data.recv_timestamp.0.to_be_bytes());
     bytes.extend((data.values.len() as u16).to_be_bytes());
@@ -291,7 +306,11 @@ fn dump_pairs(
         for (universe, last) in universes {
             write!(out, "{mark} ")?;
             hex(cid.as_bytes(), out)?;
-            writeln!(out, " {universe} {} {}", last.sequence_number, last.last_recv.0)?;
+            writeln!(
+                out,
+                " {universe} {} {}",
+                last.sequence_number, last.last_recv.0
+            )?;
         }
     }
     write!(out, "{mark}c ")?;
@@ -317,7 +336,13 @@ fn dump_sources(
         hex(s.cid.as_bytes(), out)?;
         write!(out, " ")?;
         byte_string(s.name.as_bytes(), out)?;
-        writeln!(out, " {} {} {}", s.last_page, s.last_updated.0, s.pages.len())?;
+        writeln!(
+            out,
+            " {} {} {}",
+            s.last_page,
+            s.last_updated.0,
+            s.pages.len()
+        )?;
         for page in &s.pages {
             write!(out, "{mark}p {} ", page.page)?;
             list(&page.universes, out)?;

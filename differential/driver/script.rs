@@ -76,18 +76,26 @@ pub fn parse(line: &str) -> Option<Command> {
         ["clear_all"] => Command::ClearAll,
         ["reset"] => Command::Reset,
         ["dump"] => Command::Dump,
-        ["data", now, source, universe, address, priority, sequence, set, values] => {
-            Command::Data(Data {
-                now: number(now)?,
-                cid: cid(source)?,
-                universe: number(universe)?,
-                address: number(address)?,
-                priority: number(priority)?,
-                sequence: number(sequence)?,
-                options: options(set)?,
-                values: bytes(values)?,
-            })
-        }
+        [
+            "data",
+            now,
+            source,
+            universe,
+            address,
+            priority,
+            sequence,
+            set,
+            values,
+        ] => Command::Data(Data {
+            now: number(now)?,
+            cid: cid(source)?,
+            universe: number(universe)?,
+            address: number(address)?,
+            priority: number(priority)?,
+            sequence: number(sequence)?,
+            options: options(set)?,
+            values: bytes(values)?,
+        }),
         ["sync", now, source, address, sequence] => Command::Sync(Sync {
             now: number(now)?,
             cid: cid(source)?,

@@ -17,7 +17,9 @@ const PATIENCE: Duration = Duration::from_secs(120);
 
 impl Side {
     pub fn new(command: &str) -> Side {
-        Side { command: command.split(' ').map(String::from).collect() }
+        Side {
+            command: command.split(' ').map(String::from).collect(),
+        }
     }
 
     pub fn run(&self, script: &str) -> Result<String, String> {
@@ -124,7 +126,11 @@ impl Counts {
                 .filter(|(_, n)| 0 < **n)
                 .map(|(number, n)| format!("{number}: {n}"))
                 .collect();
-            if parts.is_empty() { "none".into() } else { parts.join(", ") }
+            if parts.is_empty() {
+                "none".into()
+            } else {
+                parts.join(", ")
+            }
         };
         println!("numbers seen on both sides: {}", seen(&self.numbers));
         println!("scripts cut at: {}", seen(&self.cuts));
@@ -151,8 +157,8 @@ pub struct Difference {
 }
 
 /// Compares the answers of both sides to one script. `limits` says that the port side has document 01's tables:
-/// a script is cut where it gives 1, 10 to 13 or 15, if the crate's state bears it out, and a state beyond the
-/// tables is a difference.
+/// a script is cut, up to the next `fresh`, where it gives 1, 10 to 13 or 15, if the crate's state bears it out; and a
+/// state beyond the tables is a difference.
 pub fn compare(
     script: &[String],
     of_crate: &mut Answers,
@@ -168,16 +174,25 @@ pub fn compare(
         if is_silent(command) {
             continue;
         }
+        if command == "fresh" {
+            cut = false;
+        }
         // Read on to the end of the script even behind a cut, so that the next script's answers follow.
         let (a, b) = (of_crate.next(command), of_port.next(command));
         if cut || found.is_some() {
             continue;
         }
         let Some(a) = a else {
-            return Err(format!("the crate's side ended at line {}: {command}", place + 1));
+            return Err(format!(
+                "the crate's side ended at line {}: {command}",
+                place + 1
+            ));
         };
         let Some(b) = b else {
-            found = Some(Difference { place, why: "the port's side ended here".into() });
+            found = Some(Difference {
+                place,
+                why: "the port's side ended here".into(),
+            });
             continue;
         };
         if limits
@@ -195,7 +210,10 @@ pub fn compare(
         }
         counts.count(command, a);
         if a != b {
-            found = Some(Difference { place, why: "the answers differ".into() });
+            found = Some(Difference {
+                place,
+                why: "the answers differ".into(),
+            });
         } else if limits
             && command == "dump"
             && let Some(why) = Sizes::of(a).over()
@@ -243,7 +261,10 @@ impl Sizes {
 }
 
 fn listened(dump: &str) -> Vec<u16> {
-    let line = dump.lines().find_map(|l| l.strip_prefix("l ")).unwrap_or("-");
+    let line = dump
+        .lines()
+        .find_map(|l| l.strip_prefix("l "))
+        .unwrap_or("-");
     line.split(',').filter_map(|u| u.parse().ok()).collect()
 }
 
@@ -252,7 +273,11 @@ fn length(field: &str) -> usize {
 }
 
 fn count(field: &str) -> usize {
-    if field == "-" { 0 } else { field.split(',').count() }
+    if field == "-" {
+        0
+    } else {
+        field.split(',').count()
+    }
 }
 
 // Whether a stop that the crate has not is one that document 01 gives: the crate's state before the command,
@@ -276,13 +301,17 @@ fn unjustified(
     let mut answers = Answers::new(&output);
     let mut last = "";
     for command in script.iter().filter(|c| !is_silent(c)) {
-        last = answers.next(command).ok_or("the crate's side ended early")?;
+        last = answers
+            .next(command)
+            .ok_or("the crate's side ended early")?;
     }
     let sizes = Sizes::of(last);
     let held = |line: String| last.lines().any(|l| l.starts_with(&line));
     let universes = listened(last);
     let right = match (number(answer).unwrap_or(0), &fields[..]) {
-        (1, ["data", .., values]) => 513 < length(values) && answer == format!("1 {}", length(values)),
+        (1, ["data", .., values]) => {
+            513 < length(values) && answer == format!("1 {}", length(values))
+        }
         (1, ["discovery", .., name, list]) => {
             let (name, list) = (length(name), count(list));
             let too_long = if 63 < name { name } else { list };
@@ -295,7 +324,9 @@ fn unjustified(
             answer == "10" && sizes.sync == 1024 && !held(format!("y {cid} {address} "))
         }
         (11, ["data", _, _, _, address, ..]) => {
-            let new = address.parse().is_ok_and(|a: u16| a != 0 && !universes.contains(&a));
+            let new = address
+                .parse()
+                .is_ok_and(|a: u16| a != 0 && !universes.contains(&a));
             answer == "11" && sizes.listened == 1024 && new
         }
         (11, ["listen", list]) => {
@@ -324,7 +355,14 @@ pub fn compare_one(
 ) -> Result<Option<Difference>, String> {
     let text = script.iter().map(|l| format!("{l}\n")).collect::<String>();
     let (a, b) = (reference.run(&text)?, port.run(&text)?);
-    compare(script, &mut Answers::new(&a), &mut Answers::new(&b), reference, limits, counts)
+    compare(
+        script,
+        &mut Answers::new(&a),
+        &mut Answers::new(&b),
+        reference,
+        limits,
+        counts,
+    )
 }
 
 /// Compares many scripts in one run of each side, with `fresh` between them. Answers the first that differs.
@@ -340,7 +378,14 @@ pub fn compare_many(
     let (mut of_crate, mut of_port) = (Answers::new(&a), Answers::new(&b));
     for (i, script) in scripts.iter().enumerate() {
         let _ = (of_crate.next("fresh"), of_port.next("fresh"));
-        let difference = compare(script, &mut of_crate, &mut of_port, reference, limits, counts)?;
+        let difference = compare(
+            script,
+            &mut of_crate,
+            &mut of_port,
+            reference,
+            limits,
+            counts,
+        )?;
         if difference.is_some() {
             return Ok(Some(i));
         }
@@ -397,20 +442,23 @@ pub fn shrink(script: &[String], reference: &Side, port: &Side, limits: bool) ->
         }
     }
     for i in 0..best.len() {
-        loop {
-            let Some((head, tail)) = best[i].rsplit_once(' ') else {
-                break;
-            };
+        while let Some((head, tail)) = best[i].rsplit_once(' ') {
             let shorter = if best[i].starts_with("data") && 2 < tail.len() {
                 format!("{head} {}", &tail[..2 * (tail.len() / 4)])
             } else if best[i].starts_with("discovery") || best[i].starts_with("listen ") {
-                let Some((front, _)) = tail.rsplit_once(',') else { break };
+                let Some((front, _)) = tail.rsplit_once(',') else {
+                    break;
+                };
                 format!("{head} {front}")
             } else {
                 break;
             };
             let mut tried = best.clone();
-            tried[i] = if shorter.ends_with(' ') { format!("{shorter}-") } else { shorter };
+            tried[i] = if shorter.ends_with(' ') {
+                format!("{shorter}-")
+            } else {
+                shorter
+            };
             if differs(&tried).is_none() {
                 break;
             }

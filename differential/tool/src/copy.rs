@@ -83,7 +83,9 @@ fn test_copy(file: &str, published: &str) -> Result<String, String> {
         text += APPENDED.1;
     }
     if file == POLL.0 && count(&text, POLL.1) != 1 {
-        return Err(format!("{file}: recv's two timeout checks are not as expected"));
+        return Err(format!(
+            "{file}: recv's two timeout checks are not as expected"
+        ));
     }
     Ok(text)
 }
@@ -121,12 +123,18 @@ fn make_package(places: &Places, package: &str, mutant: Option<&Mutant>) -> Resu
         let published = read(&places.published.join(file))?;
         let copy = test_copy(file, &published)?;
         if undone(file, &copy).as_deref() != Some(&published) {
-            return Err(format!("{file}: undoing the substitutions does not give the published text"));
+            return Err(format!(
+                "{file}: undoing the substitutions does not give the published text"
+            ));
         }
         sources.push((file, file, copy));
     }
     for (file, place) in DRIVER {
-        sources.push((file, place, read(&Path::new("differential/driver").join(file))?));
+        sources.push((
+            file,
+            place,
+            read(&Path::new("differential/driver").join(file))?,
+        ));
     }
     if let Some(m) = mutant {
         let (_, _, text) = sources

@@ -24,7 +24,9 @@ fn main() -> ExitCode {
         ["sample", count, script, output] => record(count, script, output),
         ["mutants", ref rest @ ..] => try_mutants(rest),
         ["kinds"] => {
-            scripts::KINDS.iter().for_each(|(kind, what)| println!("{kind}: {what}"));
+            scripts::KINDS
+                .iter()
+                .for_each(|(kind, what)| println!("{kind}: {what}"));
             Ok(true)
         }
         _ => Err("unknown arguments".into()),
@@ -40,12 +42,16 @@ fn main() -> ExitCode {
 }
 
 fn parsed(word: Option<&&str>, default: u64) -> Result<u64, String> {
-    word.map_or(Ok(default), |w| w.parse().map_err(|_| format!("not a number: {w}")))
+    word.map_or(Ok(default), |w| {
+        w.parse().map_err(|_| format!("not a number: {w}"))
+    })
 }
 
 fn reference(places: &Places) -> Result<Side, String> {
     let path = copy::build(places, None)?;
-    Ok(Side { command: vec![path.display().to_string()] })
+    Ok(Side {
+        command: vec![path.display().to_string()],
+    })
 }
 
 fn driver() -> Result<bool, String> {
@@ -55,7 +61,9 @@ fn driver() -> Result<bool, String> {
 
 fn print_script(kind: &str, seed: &str, number: &str) -> Result<bool, String> {
     let (seed, number) = (parsed(Some(&seed), 0)?, parsed(Some(&number), 0)?);
-    scripts::script(kind, seed, number, false).iter().for_each(|l| println!("{l}"));
+    scripts::script(kind, seed, number, false)
+        .iter()
+        .for_each(|l| println!("{l}"));
     Ok(true)
 }
 
@@ -73,14 +81,22 @@ fn run(words: &[&str]) -> Result<bool, String> {
     let mut counts = Counts::default();
     for (kind, _) in scripts::KINDS {
         // Scripts of the kind `full` are long: a tenth as many.
-        let wanted = if *kind == "full" { count.div_ceil(10) } else { count };
+        let wanted = if *kind == "full" {
+            count.div_ceil(10)
+        } else {
+            count
+        };
         let mut made = 0;
         while made < wanted {
             let size = BATCH.min(wanted - made);
-            let batch: Vec<Vec<String>> =
-                (made..made + size).map(|i| scripts::script(kind, seed, i, false)).collect();
+            let batch: Vec<Vec<String>> = (made..made + size)
+                .map(|i| scripts::script(kind, seed, i, false))
+                .collect();
             if let Some(i) = compare_many(&batch, &reference, &port, true, &mut counts)? {
-                println!("{kind}, seed {seed}, script {}: a difference", made + i as u64);
+                println!(
+                    "{kind}, seed {seed}, script {}: a difference",
+                    made + i as u64
+                );
                 report(&places, &batch[i], &reference, &port)?;
                 return Ok(false);
             }
@@ -135,7 +151,10 @@ fn report(places: &Places, script: &[String], reference: &Side, port: &Side) -> 
     }
     let path = places.work.join("difference.script");
     std::fs::write(&path, &text).map_err(|e| e.to_string())?;
-    println!("-- script ({}; the answers beside it)\n{text}", path.display());
+    println!(
+        "-- script ({}; the answers beside it)\n{text}",
+        path.display()
+    );
     print_both(&small, reference, port)
 }
 
@@ -193,7 +212,13 @@ fn try_mutants(words: &[&str]) -> Result<bool, String> {
                 }
             };
             let shown = match found {
-                Some(i) if named => format!("script {}, {}", i + 1, scripts::KINDS[i % scripts::KINDS.len()].0),
+                Some(i) if named => {
+                    format!(
+                        "script {}, {}",
+                        i + 1,
+                        scripts::KINDS[i % scripts::KINDS.len()].0
+                    )
+                }
                 Some(i) => format!("script {}", i + 1),
                 None if equivalent => "not found, as it should be".into(),
                 None => "NOT FOUND".into(),
@@ -206,7 +231,9 @@ fn try_mutants(words: &[&str]) -> Result<bool, String> {
             }
         }
     }
-    println!("{tried} mutants, {survivors} not as they should be; the last was found by script {latest} of {count}");
+    println!(
+        "{tried} mutants, {survivors} not as they should be; the last was found by script {latest} of {count}"
+    );
     Ok(survivors == 0)
 }
 
@@ -217,7 +244,9 @@ fn try_mutant(
     trials: &[Vec<String>],
 ) -> Result<Option<usize>, String> {
     let path = copy::build(places, Some(mutant))?;
-    let side = Side { command: vec![path.display().to_string()] };
+    let side = Side {
+        command: vec![path.display().to_string()],
+    };
     let mut counts = Counts::default();
     let mut done = 0;
     for batch in trials.chunks(scripts::KINDS.len()) {

@@ -15,7 +15,8 @@ impl Mutant {
     pub fn apply(&self, text: &str) -> Result<String, String> {
         let find = |from: usize, part: &str| {
             let at = text[from..].find(part);
-            at.map(|i| from + i).ok_or(format!("{}: not found: {part}", self.name))
+            at.map(|i| from + i)
+                .ok_or(format!("{}: not found: {part}", self.name))
         };
         let at = find(find(0, self.within)?, self.old)?;
         Ok([&text[..at], self.new, &text[at + self.old.len()..]].concat())
@@ -29,7 +30,14 @@ const fn m(
     old: &'static str,
     new: &'static str,
 ) -> Mutant {
-    Mutant { name, file: "receive.rs", within, old, new, what }
+    Mutant {
+        name,
+        file: "receive.rs",
+        within,
+        old,
+        new,
+        what,
+    }
 }
 
 const fn packet(
@@ -39,7 +47,14 @@ const fn packet(
     old: &'static str,
     new: &'static str,
 ) -> Mutant {
-    Mutant { name, file: "packet.rs", within, old, new, what }
+    Mutant {
+        name,
+        file: "packet.rs",
+        within,
+        old,
+        new,
+        what,
+    }
 }
 
 const fn step(
@@ -49,7 +64,14 @@ const fn step(
     old: &'static str,
     new: &'static str,
 ) -> Mutant {
-    Mutant { name, file: "access.rs", within, old, new, what }
+    Mutant {
+        name,
+        file: "access.rs",
+        within,
+        old,
+        new,
+        what,
+    }
 }
 
 /// No script can tell these from the reference: a step polls first, at the same reading.
@@ -70,6 +92,7 @@ pub const EQUIVALENT: &[Mutant] = &[
     ),
 ];
 
+#[rustfmt::skip]
 pub const MUTANTS: &[Mutant] = &[
     // Number rules.
     m("refuse-minus-20", "difference -20 refused", "let seq_diff", "> E131_SEQ_DIFF", ">= E131_SEQ_DIFF"),

@@ -19,15 +19,19 @@ struct Candidate {
 
 /// Chooses up to `count` scripts; answers the concatenated script and the crate's output.
 pub fn choose(count: usize, reference: &Side) -> Result<(String, String), String> {
-    let limits = Side { command: [reference.command.clone(), vec!["limits".into()]].concat() };
+    let limits = Side {
+        command: [reference.command.clone(), vec!["limits".into()]].concat(),
+    };
     let mut chosen: Vec<Vec<String>> = Vec::new();
     let mut seen: BTreeSet<String> = BTreeSet::new();
     let mut spare: Vec<Candidate> = Vec::new();
     let mut bytes = 0;
     // First what brings something new, out of many; then the rest in turn of the kinds.
     for number in 0..120 {
-        let batch: Vec<Vec<String>> =
-            KINDS.iter().map(|(kind, _)| scripts::script(kind, 1, number, true)).collect();
+        let batch: Vec<Vec<String>> = KINDS
+            .iter()
+            .map(|(kind, _)| scripts::script(kind, 1, number, true))
+            .collect();
         for candidate in candidates(batch, reference, &limits)? {
             let new = candidate.features.difference(&seen).next().is_some();
             if new && chosen.len() < count && bytes + candidate.bytes < MOST_BYTES {
@@ -65,7 +69,11 @@ pub fn choose(count: usize, reference: &Side) -> Result<(String, String), String
 }
 
 // Scripts that stay inside the node's tables, with what they see.
-fn candidates(batch: Vec<Vec<String>>, reference: &Side, limits: &Side) -> Result<Vec<Candidate>, String> {
+fn candidates(
+    batch: Vec<Vec<String>>,
+    reference: &Side,
+    limits: &Side,
+) -> Result<Vec<Candidate>, String> {
     let text = concatenated(&batch);
     let (a, b) = (reference.run(&text)?, limits.run(&text)?);
     let (mut of_crate, mut of_limits) = (Answers::new(&a), Answers::new(&b));
@@ -88,7 +96,11 @@ fn candidates(batch: Vec<Vec<String>>, reference: &Side, limits: &Side) -> Resul
             note(command, x, &mut features);
         }
         if same {
-            found.push(Candidate { script, bytes, features });
+            found.push(Candidate {
+                script,
+                bytes,
+                features,
+            });
         }
     }
     Ok(found)

@@ -95,19 +95,58 @@ const MIXED: Choice = Choice {
 
 /// The kinds of scripts, each with what it stresses.
 pub const KINDS: &[(&str, &str)] = &[
-    ("mixed", "every command and setting, few sources and universes that collide"),
-    ("sequence", "differences -128, -21 to -18, -1 to 2, 126, 127 in both tables; refused packets and what they leave"),
-    ("timeouts", "timeout announcements on and off, many pairs of which some expire at exactly 2,500, polls"),
-    ("limit", "a source limit that changes, more sources than it allows, room that ageing frees"),
-    ("termination", "terminations of known and unknown pairs, of listed universes, with preview; announced or not"),
-    ("waiting", "synchronised data for several addresses, releases, clears, unsynchronised data in between"),
-    ("merge", "few universes under one address, both merge choices, priorities, previews, empty and unlike values, falling clocks"),
-    ("discovery", "pages with gaps, repeats and pages past the last one, last pages and names that change, sweeps, resets"),
-    ("listening", "listen and mute, illegal universes first, last and alone, data and syncs for what is not listened to"),
-    ("settings", "setters between all other commands, limit 0 among them"),
-    ("clock", "readings that fall, leap, begin at 0 and end at the largest 64-bit number"),
-    ("lines", "lines that are no commands, comments, empty lines, fields out of range"),
-    ("full", "up to and past 1,024 pairs, 1,024 listened universes, 64 waiting universes, 64 pages, 513 values, 63 bytes of name, 512 universes a page"),
+    (
+        "mixed",
+        "every command and setting, few sources and universes that collide",
+    ),
+    (
+        "sequence",
+        "differences -128, -21 to -18, -1 to 2, 126, 127 in both tables; refused packets and what they leave",
+    ),
+    (
+        "timeouts",
+        "timeout announcements on and off, many pairs of which some expire at exactly 2,500, polls",
+    ),
+    (
+        "limit",
+        "a source limit that changes, more sources than it allows, room that ageing frees",
+    ),
+    (
+        "termination",
+        "terminations of known and unknown pairs, of listed universes, with preview; announced or not",
+    ),
+    (
+        "waiting",
+        "synchronised data for several addresses, releases, clears, unsynchronised data in between",
+    ),
+    (
+        "merge",
+        "few universes under one address, both merge choices, priorities, previews, empty and unlike values, falling clocks",
+    ),
+    (
+        "discovery",
+        "pages with gaps, repeats and pages past the last one, last pages and names that change, sweeps, resets",
+    ),
+    (
+        "listening",
+        "listen and mute, illegal universes first, last and alone, data and syncs for what is not listened to",
+    ),
+    (
+        "settings",
+        "setters between all other commands, limit 0 among them",
+    ),
+    (
+        "clock",
+        "readings that fall, leap, begin at 0 and end at the largest 64-bit number",
+    ),
+    (
+        "lines",
+        "lines that are no commands, comments, empty lines, fields out of range",
+    ),
+    (
+        "full",
+        "up to and past 1,024 pairs, 1,024 listened universes, 64 waiting universes, 64 pages, 513 values, 63 bytes of name, 512 universes a page",
+    ),
 ];
 
 fn choice(kind: &str) -> Choice {
@@ -261,7 +300,9 @@ fn choice(kind: &str) -> Choice {
     }
 }
 
-const ODD_UNIVERSES: [u16; 10] = [0, 64000, 64001, 64100, 64213, 64215, 65535, 63999, 64214, 12345];
+const ODD_UNIVERSES: [u16; 10] = [
+    0, 64000, 64001, 64100, 64213, 64215, 65535, 63999, 64214, 12345,
+];
 const UNIVERSES: [u16; 12] = [1, 2, 3, 4, 7, 255, 256, 257, 512, 32768, 63998, 63999];
 
 struct Script {
@@ -310,14 +351,22 @@ pub fn hex(bytes: &[u8]) -> String {
 }
 
 fn byte_string(bytes: &[u8]) -> String {
-    if bytes.is_empty() { "-".into() } else { hex(bytes) }
+    if bytes.is_empty() {
+        "-".into()
+    } else {
+        hex(bytes)
+    }
 }
 
 fn list(numbers: &[u16]) -> String {
     if numbers.is_empty() {
         return "-".into();
     }
-    numbers.iter().map(u16::to_string).collect::<Vec<_>>().join(",")
+    numbers
+        .iter()
+        .map(u16::to_string)
+        .collect::<Vec<_>>()
+        .join(",")
 }
 
 impl Script {
@@ -328,17 +377,17 @@ impl Script {
             2 => rng.next() >> rng.below(60),
             _ => 1000 + rng.below(100_000) as u64,
         };
-        let sources = rng.from_to(choice.sources.div_ceil(2).max(2), choice.sources);
+        let sources = rng.between(choice.sources.div_ceil(2).max(2), choice.sources);
         let cids = sources_of(&mut rng, sources);
         let mut pool = UNIVERSES;
         rng.shuffle(&mut pool);
-        let count = rng.from_to(1, choice.universes);
+        let count = rng.between(1, choice.universes);
         let mut universes = pool[..count].to_vec();
         if rng.percent(5) {
             universes.push(64214);
         }
         // Addresses are universes too: some of those sent on, some of their own.
-        let mut addresses: Vec<u16> = pool[count..count + rng.from_to(1, 3)].to_vec();
+        let mut addresses: Vec<u16> = pool[count..count + rng.between(1, 3)].to_vec();
         if rng.percent(50) {
             addresses.push(universes[0]);
         }
@@ -347,7 +396,7 @@ impl Script {
             b"Desk B".to_vec(),
             Vec::new(),
             "Pult süd".as_bytes().to_vec(),
-            vec![b'n'; rng.from_to(62, 63)],
+            vec![b'n'; rng.between(62, 63)],
         ];
         let tidy = rng.percent(40);
         Script {
@@ -372,7 +421,11 @@ impl Script {
 
     fn random(&mut self, short: bool) {
         self.settings_at_the_start();
-        let length = if short { self.rng.from_to(12, 30) } else { self.rng.from_to(60, 150) };
+        let length = if short {
+            self.rng.between(12, 30)
+        } else {
+            self.rng.between(60, 150)
+        };
         while self.lines.len() < length {
             self.command();
         }
@@ -396,12 +449,12 @@ impl Script {
             self.say("merge highest".into());
         }
         if self.rng.percent(c.limited) {
-            let limit = self.rng.from_to(1, c.sources.saturating_sub(1).max(1));
+            let limit = self.rng.between(1, c.sources.saturating_sub(1).max(1));
             self.say(format!("limit {limit}"));
         }
         let mut wanted = self.universes.clone();
         if self.rng.percent(20) {
-            wanted.truncate(self.rng.from_to(1, wanted.len()));
+            wanted.truncate(self.rng.between(1, wanted.len()));
         }
         if self.rng.percent(60) {
             wanted.extend(self.addresses.clone());
@@ -413,8 +466,21 @@ impl Script {
     fn command(&mut self) {
         let c = self.choice;
         let weights = [
-            c.data, c.sync, c.discovery, c.poll, c.sweep, c.clear, c.clear_all, c.reset, c.listen,
-            c.mute, c.listening, c.setting, c.limit, c.malformed, c.dump,
+            c.data,
+            c.sync,
+            c.discovery,
+            c.poll,
+            c.sweep,
+            c.clear,
+            c.clear_all,
+            c.reset,
+            c.listen,
+            c.mute,
+            c.listening,
+            c.setting,
+            c.limit,
+            c.malformed,
+            c.dump,
         ];
         match self.rng.weighted(&weights) {
             0 => self.data(),
@@ -426,7 +492,11 @@ impl Script {
             }
             4 => {
                 // The clock may fall back behind an aimed sweep, so that little else expires with it.
-                let now = if self.rng.percent(50) { self.aimed() } else { self.tick() };
+                let now = if self.rng.percent(50) {
+                    self.aimed()
+                } else {
+                    self.tick()
+                };
                 self.say(format!("sweep {now}"));
             }
             5 => {
@@ -515,7 +585,9 @@ impl Script {
             return first;
         };
         let difference: i16 = if self.rng.percent(self.choice.boundary) {
-            self.rng.pick(&[-128, -127, -21, -20, -20, -19, -19, -18, -1, 0, 0, 1, 2, 126, 127])
+            self.rng.pick(&[
+                -128, -127, -21, -20, -20, -19, -19, -18, -1, 0, 0, 1, 2, 126, 127,
+            ])
         } else {
             1
         };
@@ -533,11 +605,16 @@ impl Script {
         let length = match self.rng.below(400) {
             0 => 513,
             1 => 512,
-            _ => self.rng.from_to(1, 5),
+            _ => self.rng.between(1, 5),
         };
-        let mut values: Vec<u8> =
-            (0..length).map(|_| self.rng.pick(&[0, 1, 10, 50, 127, 128, 200, 255])).collect();
-        values[0] = if self.rng.percent(self.choice.unlike) { self.rng.pick(&[1, 0xdd, 255]) } else { 0 };
+        let mut values: Vec<u8> = (0..length)
+            .map(|_| self.rng.pick(&[0, 1, 10, 50, 127, 128, 200, 255]))
+            .collect();
+        values[0] = if self.rng.percent(self.choice.unlike) {
+            self.rng.pick(&[1, 0xdd, 255])
+        } else {
+            0
+        };
         values
     }
 
@@ -615,7 +692,7 @@ impl Script {
                 pages.pop();
             }
             if self.rng.percent(strays) {
-                let again = self.rng.from_to(0, usize::from(last)) as u8;
+                let again = self.rng.between(0, usize::from(last)) as u8;
                 pages.push(again);
             }
             self.plans.insert(cid, (last, pages));
@@ -638,9 +715,19 @@ impl Script {
             let i = self.rng.below(self.names.len());
             self.names[i].clone()
         };
-        let length = if self.rng.below(300) == 0 { self.rng.from_to(511, 512) } else { self.rng.from_to(0, 5) };
+        let length = if self.rng.below(300) == 0 {
+            self.rng.between(511, 512)
+        } else {
+            self.rng.between(0, 5)
+        };
         let universes: Vec<u16> = (0..length)
-            .map(|_| if self.rng.percent(75) { self.universe() } else { self.rng.pick(&UNIVERSES) })
+            .map(|_| {
+                if self.rng.percent(75) {
+                    self.universe()
+                } else {
+                    self.rng.pick(&UNIVERSES)
+                }
+            })
             .collect();
         self.say(format!(
             "discovery {now} {} {page} {last} {} {}",
@@ -651,7 +738,7 @@ impl Script {
     }
 
     fn listen(&mut self) {
-        let length = self.rng.from_to(0, 4);
+        let length = self.rng.between(0, 4);
         let odd = self.rng.pick(&[0, 1, 6]);
         let mut wanted: Vec<u16> = (0..length)
             .map(|_| match self.rng.below(12) {
@@ -686,7 +773,7 @@ impl Script {
             1 | 2 => self.say("limit none".into()),
             3 => self.say("limit 65535".into()),
             _ => {
-                let limit = self.rng.from_to(1, self.cids.len());
+                let limit = self.rng.between(1, self.cids.len());
                 self.say(format!("limit {limit}"));
             }
         }
@@ -739,7 +826,7 @@ impl Script {
     // Scripts around the sizes of the node's tables.
     fn full(&mut self, short: bool) {
         self.now = 1000 + self.rng.below(1000) as u64;
-        match self.rng.weighted(&[5, 5, usize::from(!short), 2, 4]) {
+        match self.rng.weighted(&[5, 5, 2 * usize::from(!short), 3, 4]) {
             0 => self.full_waiting(short),
             1 => self.full_pages(),
             2 => self.full_pairs(),
@@ -765,7 +852,7 @@ impl Script {
         for universe in &order[..stop] {
             self.full_data(*universe, long);
         }
-        for _ in 0..self.rng.from_to(4, 12) {
+        for _ in 0..self.rng.between(4, 12) {
             match self.rng.below(8) {
                 0 => self.say(format!("clear {}", order[0])),
                 1 => {
@@ -792,9 +879,10 @@ impl Script {
     fn full_data(&mut self, universe: u16, long: bool) {
         let cid = self.rng.pick(&self.cids);
         let sequence = self.sequence(false, cid, universe);
-        let length = if long { 513 } else { self.rng.from_to(1, 3) };
-        let values: Vec<u8> =
-            (0..length).map(|i| if i == 0 { 0 } else { self.rng.below(256) as u8 }).collect();
+        let length = if long { 513 } else { self.rng.between(1, 3) };
+        let values: Vec<u8> = (0..length)
+            .map(|i| if i == 0 { 0 } else { self.rng.below(256) as u8 })
+            .collect();
         let address = if self.rng.percent(90) { 1000 } else { 1001 };
         self.say(format!(
             "data {} {} {universe} {address} 100 {sequence} 0 {}",
@@ -819,7 +907,7 @@ impl Script {
             pages += count;
             i += 1;
         }
-        for _ in 0..self.rng.from_to(3, 8) {
+        for _ in 0..self.rng.between(3, 8) {
             match self.rng.below(6) {
                 0 => {
                     self.now += self.rng.pick(&[1, 2499, 2500]);
@@ -829,7 +917,10 @@ impl Script {
                 2 => {
                     let now = self.now;
                     let universe = self.universe();
-                    self.say(format!("data {now} {} {universe} 0 100 0 64 -", hex(&cids[0])));
+                    self.say(format!(
+                        "data {now} {} {universe} 0 100 0 64 -",
+                        hex(&cids[0])
+                    ));
                 }
                 3 => self.say("reset".into()),
                 _ => {
@@ -842,10 +933,15 @@ impl Script {
     }
 
     fn page(&mut self, cid: Cid, page: u8, last: u8) {
-        let length = self.rng.from_to(0, 3);
+        let length = self.rng.between(0, 3);
         let universes: Vec<u16> = (0..length).map(|_| self.universe()).collect();
         self.now += self.rng.pick(&[0, 0, 1, 30]);
-        self.say(format!("discovery {} {} {page} {last} 41 {}", self.now, hex(&cid), list(&universes)));
+        self.say(format!(
+            "discovery {} {} {page} {last} 41 {}",
+            self.now,
+            hex(&cid),
+            list(&universes)
+        ));
     }
 
     // 1,024 pairs: many sources on many universes, in one table or the other.
@@ -865,12 +961,18 @@ impl Script {
             self.pair(sync, *cid, *universe);
         }
         self.say("dump".into());
-        for _ in 0..self.rng.from_to(5, 20) {
+        for _ in 0..self.rng.between(5, 20) {
             if self.rng.percent(20) {
                 self.now += self.rng.pick(&[1, 600, 1500]);
             }
             let (cid, universe) = self.rng.pick(&pairs);
-            self.pair(sync, cid, universe);
+            if !sync && self.rng.percent(25) {
+                let now = self.now;
+                self.say(format!("data {now} {} {universe} 0 100 0 64 -", hex(&cid)));
+                self.last.remove(&(sync, cid, universe));
+            } else {
+                self.pair(sync, cid, universe);
+            }
         }
     }
 
@@ -887,16 +989,22 @@ impl Script {
 
     // 1,024 listened universes, reached by lists and by addresses.
     fn full_listened(&mut self, short: bool) {
-        let first = self.rng.from_to(1, 60000) as u16;
-        let most = if short { 80 } else { self.rng.pick(&[1020, 1022, 1023, 1023]) };
+        let first = self.rng.between(1, 60000) as u16;
+        let most = if short {
+            80
+        } else {
+            self.rng.pick(&[1020, 1022, 1023, 1023])
+        };
         let mut numbers: Vec<u16> = (first..first + most).collect();
         self.rng.shuffle(&mut numbers);
         for part in numbers.chunks(400) {
             self.say(format!("listen {}", list(part)));
         }
-        for _ in 0..self.rng.from_to(6, 14) {
+        for _ in 0..self.rng.between(6, 14) {
             let universe = match self.rng.below(3) {
-                0 => first.wrapping_add(most).wrapping_add(self.rng.below(4) as u16),
+                0 => first
+                    .wrapping_add(most)
+                    .wrapping_add(self.rng.below(4) as u16),
                 _ => self.rng.pick(&numbers),
             };
             match self.rng.below(5) {
@@ -924,23 +1032,35 @@ impl Script {
         self.say(format!("listen {universe}"));
         self.say("merge highest".into());
         self.say("announce_discovery 1".into());
-        let over = if short { 0 } else { usize::from(self.rng.percent(40)) };
+        let over = if short {
+            0
+        } else {
+            usize::from(self.rng.percent(40))
+        };
         for i in 0..6 {
             let cid = self.rng.pick(&self.cids);
             let sequence = self.sequence(false, cid, universe);
             let length = self.rng.pick(&[1, 511, 512, 513]);
             let length = if i == 5 { 513 + over } else { length };
-            let values: Vec<u8> =
-                (0..length).map(|i| if i == 0 { 0 } else { self.rng.below(256) as u8 }).collect();
+            let values: Vec<u8> = (0..length)
+                .map(|i| if i == 0 { 0 } else { self.rng.below(256) as u8 })
+                .collect();
             let to = if self.rng.percent(80) { address } else { 0 };
             let (now, cid) = (self.now, hex(&cid));
             if i == 5 && self.rng.percent(60) {
                 let name = vec![b'n'; 63 + self.rng.below(2) * over];
                 let length = 512 + self.rng.below(2) * over;
                 let universes: Vec<u16> = (0..length).map(|_| self.universe()).collect();
-                self.say(format!("discovery {now} {cid} 0 0 {} {}", hex(&name), list(&universes)));
+                self.say(format!(
+                    "discovery {now} {cid} 0 0 {} {}",
+                    hex(&name),
+                    list(&universes)
+                ));
             } else {
-                self.say(format!("data {now} {cid} {universe} {to} 100 {sequence} 0 {}", hex(&values)));
+                self.say(format!(
+                    "data {now} {cid} {universe} {to} 100 {sequence} 0 {}",
+                    hex(&values)
+                ));
             }
             if self.rng.percent(30) {
                 let sequence = self.sequence(true, self.cids[0], address);
