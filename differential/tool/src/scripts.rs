@@ -220,7 +220,7 @@ fn choice(kind: &str) -> Choice {
             sync: 22,
             discovery: 0,
             clear: 4,
-            clear_all: 2,
+            clear_all: 3,
             synchronised: 85,
             boundary: 4,
             terminated: 3,
@@ -503,10 +503,14 @@ impl Script {
                 let universe = self.universe();
                 self.say(format!("clear {universe}"));
             }
-            6 => self.say("clear_all".into()),
+            6 => {
+                self.say("clear_all".into());
+                self.say("dump".into());
+            }
             7 => {
                 self.last.clear();
                 self.say("reset".into());
+                self.say("dump".into());
             }
             8 => self.listen(),
             9 => {
