@@ -12,8 +12,8 @@ pub struct Side {
     pub command: Vec<String>,
 }
 
-/// A side that has not ended by then is stopped; what it printed so far counts.
-const PATIENCE: Duration = Duration::from_secs(120);
+/// A side that has not ended by then is stopped, and the run with it.
+const PATIENCE: Duration = Duration::from_secs(300);
 
 impl Side {
     pub fn new(command: &str) -> Side {
@@ -37,11 +37,16 @@ impl Side {
         let output = read_patiently(&mut child);
         let _ = child.wait();
         let _ = writer.join();
+        let output = output.ok_or(format!(
+            "{} has not ended after {} s",
+            self.command[0],
+            PATIENCE.as_secs()
+        ))?;
         Ok(String::from_utf8_lossy(&output).into_owned())
     }
 }
 
-fn read_patiently(child: &mut Child) -> Vec<u8> {
+fn read_patiently(child: &mut Child) -> Option<Vec<u8>> {
     let mut stdout = child.stdout.take().expect("a pipe");
     let (done, ended) = mpsc::channel();
     let reader = thread::spawn(move || {
@@ -52,8 +57,9 @@ fn read_patiently(child: &mut Child) -> Vec<u8> {
     });
     if ended.recv_timeout(PATIENCE).is_err() {
         let _ = child.kill();
+        return None;
     }
-    reader.join().unwrap_or_default()
+    reader.join().ok()
 }
 
 /// Lines that print nothing.
@@ -209,7 +215,12 @@ pub fn compare(
             continue;
         }
         counts.count(command, a);
-        if a != b {
+        if limits && b != "error" && too_long(command).is_some() {
+            found = Some(Difference {
+                place,
+                why: "a field is too long, and no 1 was given".into(),
+            });
+        } else if a != b {
             found = Some(Difference {
                 place,
                 why: "the answers differ".into(),
@@ -280,6 +291,17 @@ fn count(field: &str) -> usize {
     }
 }
 
+// The length that document 01's 1 returns for a step, the name's before the list's.
+fn too_long(command: &str) -> Option<usize> {
+    let over = |length: usize, most: usize| (most < length).then_some(length);
+    let fields: Vec<&str> = command.split(' ').collect();
+    match fields[..] {
+        ["data", _, _, _, _, _, _, _, values] => over(length(values), 513),
+        ["discovery", _, _, _, _, name, list] => over(length(name), 63).or(over(count(list), 512)),
+        _ => None,
+    }
+}
+
 // Whether a stop that the crate has not is one that document 01 gives: the crate's state before the command,
 // polled at the command's reading, must stand at the table's size. Answers why it is not, if so.
 fn unjustified(
@@ -309,14 +331,7 @@ fn unjustified(
     let held = |line: String| last.lines().any(|l| l.starts_with(&line));
     let universes = listened(last);
     let right = match (number(answer).unwrap_or(0), &fields[..]) {
-        (1, ["data", .., values]) => {
-            513 < length(values) && answer == format!("1 {}", length(values))
-        }
-        (1, ["discovery", .., name, list]) => {
-            let (name, list) = (length(name), count(list));
-            let too_long = if 63 < name { name } else { list };
-            (63 < name || 512 < list) && answer == format!("1 {too_long}")
-        }
+        (1, _) => too_long(command).is_some_and(|length| answer == format!("1 {length}")),
         (10, ["data", _, cid, universe, ..]) => {
             answer == "10" && sizes.data == 1024 && !held(format!("d {cid} {universe} "))
         }

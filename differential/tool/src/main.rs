@@ -79,7 +79,16 @@ fn run(words: &[&str]) -> Result<bool, String> {
     let (count, seed) = (parsed(words.first(), 200)?, parsed(words.get(1), 1)?);
     let start = Instant::now();
     let mut counts = Counts::default();
+    let only = words.get(2);
+    if let Some(kind) = only
+        && !scripts::KINDS.iter().any(|(k, _)| k == kind)
+    {
+        return Err(format!("no kind {kind}"));
+    }
     for (kind, _) in scripts::KINDS {
+        if only.is_some_and(|k| k != kind) {
+            continue;
+        }
         // Scripts of the kind `full` are long: a tenth as many.
         let wanted = if *kind == "full" {
             count.div_ceil(10)
@@ -88,7 +97,7 @@ fn run(words: &[&str]) -> Result<bool, String> {
         };
         let mut made = 0;
         while made < wanted {
-            let size = BATCH.min(wanted - made);
+            let size = if *kind == "full" { BATCH / 5 } else { BATCH }.min(wanted - made);
             let batch: Vec<Vec<String>> = (made..made + size)
                 .map(|i| scripts::script(kind, seed, i, false))
                 .collect();
