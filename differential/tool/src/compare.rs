@@ -392,33 +392,33 @@ pub fn compare_many(
     let (a, b) = (reference.run(&text)?, port.run(&text)?);
     let (mut of_crate, mut of_port) = (Answers::new(&a), Answers::new(&b));
     for (i, script) in scripts.iter().enumerate() {
-        let _ = (of_crate.next("fresh"), of_port.next("fresh"));
-        let difference = compare(
-            script,
+        let script = begun(script);
+        let found = compare(
+            &script,
             &mut of_crate,
             &mut of_port,
             reference,
             limits,
             counts,
         )?;
-        if difference.is_some() {
+        if found.is_some() {
             return Ok(Some(i));
         }
     }
     Ok(None)
 }
 
+/// The script with `fresh` before it.
+pub fn begun(script: &[String]) -> Vec<String> {
+    let mut all = vec!["fresh".to_string()];
+    all.extend_from_slice(script);
+    all
+}
+
 /// One script of many: each begins with `fresh`.
 pub fn concatenated(scripts: &[Vec<String>]) -> String {
-    let mut text = String::new();
-    for script in scripts {
-        text += "fresh\n";
-        for line in script {
-            text += line;
-            text.push('\n');
-        }
-    }
-    text
+    let lines = scripts.iter().flat_map(|s| begun(s));
+    lines.map(|l| l + "\n").collect()
 }
 
 /// The smallest script that still differs: commands are left out as long as that is so, then the script ends

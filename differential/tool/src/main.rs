@@ -7,7 +7,7 @@ mod rng;
 mod sample;
 mod scripts;
 
-use compare::{Counts, Side, compare_many, compare_one, shrink};
+use compare::{Counts, Side, begun, compare_many, compare_one, shrink};
 use copy::Places;
 use std::process::ExitCode;
 use std::time::Instant;
@@ -106,7 +106,13 @@ fn run(words: &[&str]) -> Result<bool, String> {
                     "{kind}, seed {seed}, script {}: a difference",
                     made + i as u64
                 );
-                report(&places, &batch[i], &reference, &port)?;
+                let mut script = batch[i].clone();
+                let alone = compare_one(&script, &reference, &port, true, &mut counts)?;
+                if alone.is_none() {
+                    println!("it needs scripts before it: `fresh` leaves something");
+                    script = batch[..=i].iter().flat_map(|s| begun(s)).collect();
+                }
+                report(&places, &script, &reference, &port)?;
                 return Ok(false);
             }
             made += size;

@@ -348,5 +348,8 @@ pub const MUTANTS: &[Mutant] = &[
     m("reset-no-data", "reset leaves the data table", "fn clear(&mut self)", "self.data_sequences.clear();", ""),
     m("reset-no-partial", "reset leaves partial entries", "pub fn reset_sources", "self.partially_discovered_sources.clear();", ""),
     m("reset-no-listed", "reset leaves listed entries", "pub fn reset_sources", "self.discovered_sources.clear();", ""),
+    step("fresh-keeps-limit", "fresh keeps the limit", "Command::Fresh",
+        "*r = receiver(None).expect(\"a fresh receiver\");",
+        "let limit = r.source_limit; *r = receiver(None).expect(\"a fresh receiver\"); r.source_limit = limit;"),
     m("limit-0", "limit 0 is taken", "pub fn with_ip", "&& x == 0", "&& false"),
 ];
