@@ -174,10 +174,10 @@ fn report(places: &Places, script: &[String], reference: &Side, port: &Side) -> 
 }
 
 // The scripts of a mutant's trial: the kinds in turn.
-fn trial(number: u64) -> Vec<String> {
+fn trial(seed: u64, number: u64) -> Vec<String> {
     let kinds = scripts::KINDS.len() as u64;
     let (kind, _) = scripts::KINDS[(number % kinds) as usize];
-    scripts::script(kind, 1, number / kinds, false)
+    scripts::script(kind, seed, number / kinds, false)
 }
 
 // The scripts of a file, each of which begins with `fresh`.
@@ -208,9 +208,13 @@ fn try_mutants(words: &[&str]) -> Result<bool, String> {
     let places = Places::new();
     let reference = reference(&places)?;
     let wanted = words.get(1).unwrap_or(&"");
+    let seed = parsed(words.get(2), 1)?;
     let (trials, named): (Vec<Vec<String>>, bool) = match words.first() {
         Some(path) if path.parse::<u64>().is_err() => (scripts_of(path)?, false),
-        count => ((0..parsed(count, 130)?).map(trial).collect(), true),
+        count => (
+            (0..parsed(count, 130)?).map(|i| trial(seed, i)).collect(),
+            true,
+        ),
     };
     let count = trials.len();
     let mut survivors = 0;
