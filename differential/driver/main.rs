@@ -1,0 +1,36 @@
+//! Reads a replay script on standard input, carries it out on the crate's test copy and prints the answers.
+//! With the argument `limits` it also gives document 01's stops 1 and 10 to 13, as the port would.
+
+#![allow(warnings)]
+
+mod clock;
+mod error;
+mod packet;
+mod receive;
+mod sacn_parse_pack_error;
+mod script;
+
+use std::io::{self, BufWriter, Read, Write};
+
+fn main() -> io::Result<()> {
+    let limits = std::env::args().nth(1).is_some_and(|a| a == "limits");
+    let mut script = Vec::new();
+    io::stdin().lock().read_to_end(&mut script)?;
+    let mut out = BufWriter::with_capacity(1 << 16, io::stdout().lock());
+    let mut replay = receive::access::Replay::new(limits);
+    let mut lines: Vec<&[u8]> = script.split(|b| *b == b'\n').collect();
+    // What stands behind the last line's end is no line.
+    if lines.last().is_some_and(|l| l.is_empty()) {
+        lines.pop();
+    }
+    for line in lines {
+        if line.is_empty() || line[0] == b'#' {
+            continue;
+        }
+        match std::str::from_utf8(line).ok().and_then(script::parse) {
+            Some(command) => replay.carry_out(command, &mut out)?,
+            None => writeln!(out, "error")?,
+        }
+    }
+    out.flush()
+}
