@@ -20,7 +20,7 @@ use Rattle.discovery.specs.declared.PageArrived.{PageArrived}
 use Rattle.discovery.specs.declared.PageAnswer.{PageAnswer}
 use Rattle.discovery.specs.declared.PageAnswer.the-variants.{Taken, Listed, PagesFull}
 use Rattle.discovery.specs.Discovery.{Source, Discovered, Announcement, lookup, drop-source, relisted, updated, numbered, complete, extended, begun, extend, list, noted, noting, taken, arrived, pages-held, capacity}
-use Rattle.discovery.specs.Laws.{none-lookup, lookup-cid, partial-noting}
+use Rattle.discovery.specs.Laws.{none-lookup, lookup-cid, partial-noting, extended-cid, extended-last}
 use Rattle.discovery.specs.Kept.{dropped-none, count-keep}
 use Rattle.discovery.specs.Store.{Head, heads-of, pages-at, viewOf, lookup-pages}
 use Rattle.discovery.specs.Moves.{without, with-source, lookup-head}
@@ -123,14 +123,6 @@ last-of d S N P U k c at place inside t e =
     heads-getD at (take n S) (take n N) h₀ (omega (arith, length-take n S)) ∙ ap (λ (y : List ℕ). headOf y (getD (take n N) at [])) (getD-take n S at [] inside) in
     let l = lookup-head 0 c h₀ hs (pages-at 0 (leavesOf d P U)) t e in
     sym (ap (λ (h : Head). h .last-page) g) ∙ ap (λ (i : ℕ). getD hs i h₀ .last-page) q ∙ ap (λ (s : Source). s .last-page) l
-
-extended-cid : (now : ℕ) (a : Announcement) (t : Source) → extended now a t .cid ≡ t .cid
-unfolding extended
-extended-cid now a t = refl
-
-extended-last : (now : ℕ) (a : Announcement) (t : Source) → extended now a t .last-page ≡ t .last-page
-unfolding extended
-extended-last now a t = refl
 
 pages-after : (d : Discovery) (S N P : List (List ℕ)) (U : List ℕ) (c : Cid) (s : Source) → lookup c (discoveredOf d S N P U .partial) ≡ some s
     → s .pages ≡ pages-at 0 (leaves (take (d .«page_count») P) U) c

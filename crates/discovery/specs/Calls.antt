@@ -139,10 +139,6 @@ module _ (d : Discovery) (S N P : List (List ℕ)) (U : List ℕ) (k : Kept d S 
   unfolding discoveredOf
   seen-before = e
 
-  place′ : at ≡ prefix (λ h. not (heads-of 0 (a .cid) h)) (headsOf d S N)
-  unfolding headsOf
-  place′ = place ∙ sym (heads-prefix 0 (a .cid) (take (d .«source_count») S) (take (d .«source_count») N))
-
   heads-more : headsOf page-more (set S at (renewed-row now (getD S at []))) N
       ≡ set (headsOf d S N) (prefix (λ h. not (heads-of 0 (a .cid) h)) (headsOf d S N)) (renewed now (getD (headsOf d S N) (prefix (λ h. not (heads-of 0 (a .cid) h)) (headsOf d S N)) h₀))
   unfolding headsOf

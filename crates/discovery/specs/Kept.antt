@@ -77,6 +77,13 @@ unfolding cut
 cut-cid c u s = split (same (s .cid) c) (λ h. rw h) (λ h. rw h)
 
 -- ── pages in the order of their numbers ──
+length-in-place : (p : Page) (ps : List Page) → length (in-place p ps) ≡ suc (length ps)
+unfolding in-place
+length-in-place p [] = refl
+length-in-place p (q ∷ qs) =
+    let r = length-in-place p qs in
+    split (leb (p .number) (q .number)) (λ h. rw h) (λ h. rw h (ap suc r))
+
 -- no page of the list has a smaller number
 abbrev pub Least : ℕ → List Page → Type 0
 Least k ps = any (λ q. not (leb k (q .number))) ps ≡ false
@@ -152,13 +159,6 @@ sorted-added p (q ∷ qs) r =
     let lt : p .number < q .number = omega (arith, leb-false (q .number) (p .number) h) in
     let z = prefix-none (p .number) qs (q .number) lt (r .0) in
     rw (e, h, z, h) (ap (λ (l : List Page). p ∷ l) (in-place-least q qs (r .0))))
-
-length-in-place : (p : Page) (ps : List Page) → length (in-place p ps) ≡ suc (length ps)
-unfolding in-place
-length-in-place p [] = refl
-length-in-place p (q ∷ qs) =
-    let r = length-in-place p qs in
-    split (leb (p .number) (q .number)) (λ h. rw h) (λ h. rw h (ap suc r))
 
 pub length-sorted : (ps : List Page) → length (sorted ps) ≡ length ps
 unfolding sorted

@@ -29,6 +29,20 @@ same-sym a b =
 pub same-not : (a b : Cid) → a ≢ b → same a b ≡ false
 same-not a b n = split (same a b) (λ h. absurd (n (same-path a b h))) (λ h. h)
 
+-- ── a source extended ──
+-- "The first last-page value and first name are kept"
+pub extended-name : (now : ℕ) (a : Announcement) (t : Source) → extended now a t .name ≡ t .name
+unfolding extended
+extended-name now a t = refl
+
+pub extended-cid : (now : ℕ) (a : Announcement) (t : Source) → extended now a t .cid ≡ t .cid
+unfolding extended
+extended-cid now a t = refl
+
+pub extended-last : (now : ℕ) (a : Announcement) (t : Source) → extended now a t .last-page ≡ t .last-page
+unfolding extended
+extended-last now a t = refl
+
 -- ── lookup after each operation ──
 -- the first of two
 abbrev pub either : Option Source → Option Source → Option Source

@@ -195,10 +195,6 @@ total-pushed A w r h = rw (add-one, take-suc-set A w r h) (omega (arith, total-a
 pub few-pushed : (A : List (List ℕ)) (w : ℕ) (r : List ℕ) → w < length A → Few (take w A) → amount r ≤ 512 → Few (take (w + 1) (set A w r))
 few-pushed A w r h f k = rw (add-one, take-suc-set A w r h) (few-append (take w A) r f k)
 
--- what a page looks like in the pool as it was
-pub leaf-same : (r : List ℕ) (us vs : List ℕ) → take (amount r) us ≡ take (amount r) vs → leafAt r us ≡ leafAt r vs
-leaf-same r us vs e = ap (leafWith r) e
-
 -- ── what code over the pages asks, and what it leaves ──
 pub record Packing (count : ℕ) (pages : List (List ℕ)) (universes : List ℕ) : Type 0 where
   pub rows : length pages ≡ 64

@@ -73,17 +73,6 @@ module _ (time now : ℕ) where
   any-old [] ns = refl
   any-old (r ∷ rs) ns = rw (any-old rs (drop 1 ns))
 
-  -- none is expired: the sweep changes nothing
-  none-old : (m : ℕ) (hs : List Head) (P : Cid → List Page) → any (old time now) hs ≡ false → keep (current time now) (sources-at m hs P) ≡ sources-at m hs P
-  unfolding any keep sources-at
-  none-old m [] P a = refl
-  none-old m (x ∷ hs) P a =
-      split (old time now x)
-      (λ h. let z : true ≡ false = rw h at a in clash refl z)
-      (λ h.
-      let r = none-old m hs P (rw h at a) in
-      split (eqb (x .mark) m) (λ g. rw (g, h) (ap (λ (l : List Source). sourceOf P x ∷ l) r)) (λ g. rw g r))
-
   -- an expired source dropped is no loss to the sweep
   one-old : (m : ℕ) (c : Cid) (hs : List Head) (P : Cid → List Page) → Once (sources-at m hs P) → any (λ h. heads-of m c h && old time now h) hs ≡ true
       → keep (current time now) (drop-source c (sources-at m hs P)) ≡ keep (current time now) (sources-at m hs P)
@@ -106,6 +95,17 @@ module _ (time now : ℕ) where
       let r = one-old m c hs P (o′ .1) (rw (g, e) at a) in
       split (old time now x) (λ h. rw (g, e, h) r) (λ h. rw (g, e, h) (ap (λ (l : List Source). sourceOf P x ∷ l) r))))
       (λ g. let r = one-old m c hs P (rw g at o) (rw g at a) in rw g r)
+
+  -- none is expired: the sweep changes nothing
+  none-old : (m : ℕ) (hs : List Head) (P : Cid → List Page) → any (old time now) hs ≡ false → keep (current time now) (sources-at m hs P) ≡ sources-at m hs P
+  unfolding any keep sources-at
+  none-old m [] P a = refl
+  none-old m (x ∷ hs) P a =
+      split (old time now x)
+      (λ h. let z : true ≡ false = rw h at a in clash refl z)
+      (λ h.
+      let r = none-old m hs P (rw h at a) in
+      split (eqb (x .mark) m) (λ g. rw (g, h) (ap (λ (l : List Source). sourceOf P x ∷ l) r)) (λ g. rw g r))
 
   module _ (d : Discovery) (S N P : List (List ℕ)) (U : List ℕ) (k : Kept d S N P U) where
     -- nothing is left to drop
