@@ -1,0 +1,71 @@
+-- Where the header says that nothing can be expired and no CID be without a pair, a sweep does nothing; else both lists are gone through.
+-- Assumes nothing.
+use mathlib.Core.Path.{_≡_, refl, sym, ap, subst, _∙_}
+use mathlib.Core.List.{List}
+use Prim.Native.Nat.{ℕ, _≤_}
+use native.Mathlib.Omega.{arith}
+use Rattle.table.specs.Table.{Ascending, ascending-keep}
+use Rattle.pairs.specs.declared.Pair.{Pair}
+use Rattle.pairs.specs.Table.{keyOf, key-before, key-order, live}
+use Rattle.pairs.specs.View.{pairsOf}
+use Rattle.pairs.specs.Calls.{sweep-idle, sweep-done}
+use borrow.Author.Needs.{needs}
+use Rattle.pairs.proofs.PairTable.sweep_expired.Statement.{statement}
+use Rattle.pairs.proofs.PairTable.sweep_expired.Tie as tie
+
+module _ (c : tie.After-keep-live) where
+  abbrev start : tie.Start
+  start = c .before .before .before .before
+
+  few : c .keep-live .result ≤ 1024
+  few = omega (arith, c .keep-live .ensures .0, start .pre .count-fits)
+
+is-idle-requires : tie.Need-is-idle-requires
+is-idle-requires c κs = search needs
+
+returns : tie.Need-returns
+returns c =
+    let s = c .before .before in
+    let v = s .args in
+    sweep-idle (v .self) (v .pairs .now) (v .sources .now) (s .pre) (v .reading) (sym (c .before .is-idle .ensures) ∙ c .if1 .taken)
+
+keep-live-requires : tie.Need-keep-live-requires
+keep-live-requires c κs = search needs
+
+least-reading-requires : tie.Need-least-reading-requires
+least-reading-requires c κs = search needs
+
+keep-sources-requires : tie.Need-keep-sources-requires
+keep-sources-requires c κs =
+    let l = c .before .before .before .before in
+    let s = start l in
+    record {
+      n-fits = few l;
+      pairs-room = l .keep-live .ensures .1;
+      m-fits = s .pre .source-count-fits;
+      sources-room = s .pre .sources-room;
+      pairs-ascend = subst (λ (ps : List Pair). Ascending key-before keyOf ps) (sym (l .keep-live .ensures .2))
+          (ascending-keep key-before keyOf key-order (live (s .args .reading)) (pairsOf (s .args .self .count) (s .args .pairs .now)) (s .pre .ordered .pairs-ascend));
+      sources-ascend = s .pre .ordered .sources-ascend;
+    }
+
+returns-2 : tie.Need-returns-2
+returns-2 c =
+    let o = c .before .before .before in
+    let l = o .before .before in
+    let s = start l in
+    let v = s .args in
+    let m : c .keep-sources .result ≤ 1024 = omega (arith, c .keep-sources .ensures .0, s .pre .source-count-fits) in
+    sweep-done (v .self) (v .pairs .now) (v .sources .now) (s .pre) (v .reading) (l .keep-live .result) (c .keep-sources .result) (o .least-reading .result) (l .keep-live .last .0) (c .keep-sources .last .1 .1 .0)
+    (l .keep-live .ensures .1) (c .keep-sources .ensures .1) (few l) m (l .keep-live .ensures .2) (c .keep-sources .ensures .2) (o .least-reading .ensures)
+
+pub sweep-expired-spec : {M : Type 1} → statement M
+sweep-expired-spec =
+    tie.close
+    (tie.spec
+    is-idle-requires
+    returns
+    keep-live-requires
+    least-reading-requires
+    keep-sources-requires
+    returns-2)
