@@ -2,33 +2,31 @@
 -- Assumes nothing.
 use mathlib.Core.Path.{_≡_, refl, sym, ap, _∙_}
 use mathlib.Core.Logic.{_≢_}
-use mathlib.Core.Bool.{Bool, true, false, not, cond, _&&_, _||_}
+use mathlib.Core.Bool.{Bool, true, false, not, _&&_}
 use mathlib.Core.Option.{Option, none, some}
 use mathlib.Core.List.{List, [], _∷_, map}
-use Prim.Native.Nat.{ℕ, suc, _+_, _-_, _≤_, _<_}
+use Prim.Native.Nat.{ℕ, _+_, _-_, _≤_, _<_}
 use native.Mathlib.Omega.{arith}
-use native.Mathlib.Numerals.{add-one}
 use lib.Dec.{ltb, leb}
-use lib.ListN.{length, take, drop, getD, set, length-take, length-map}
-use borrow.Author.Tests.{ltb-true, ltb-false, leb-true, leb-false, lt-ltb, le-ltb, lt-leb, le-leb}
+use lib.ListN.{length, take, getD, set, length-take, length-map}
+use lib.Seq.{getD-take}
+use borrow.Author.Tests.{ltb-false, le-ltb, lt-leb, le-leb}
 use Rattle.table.specs.Cases.{split, clash, found, missing}
-use Rattle.table.specs.Order.{Order, tri, keyed, asym, beyond, differs}
-use Rattle.table.specs.Table.{keep, any, find, store, remove, Ascending, Under, other-than, keep-all, find-key, remove-keep, store-known, remove-absent}
-use Rattle.table.specs.Place.{place, insertAt, removeAt, store-insert, store-replace, remove-place, insertAt-map, removeAt-map, set-map, found-place}
+use Rattle.table.specs.Order.{Order, tri, keyed}
+use Rattle.table.specs.Table.{keep, any, find, store, remove, Ascending, other-than, keep-all, find-key, remove-keep, store-known}
+use Rattle.table.specs.Place.{place, insertAt, removeAt, store-insert, store-replace, remove-place, insertAt-map, removeAt-map, set-map, getD-map, found-place}
 use Rattle.table.specs.Arrays.{replace}
 use Rattle.rules.specs.declared.Cid.{Cid}
-use Rattle.rules.specs.Cid.{same, before, cid-order, same-refl, same-path}
+use Rattle.rules.specs.Cid.{same, before, cid-order, same-refl}
 use Rattle.rules.specs.Age.{expired}
 use Rattle.rules.specs.Sequence.{difference, refused}
 use Rattle.settings.specs.declared.SourceLimit.{SourceLimit}
 use Rattle.pairs.specs.declared.Pair.{Pair}
-use Rattle.pairs.specs.declared.Found.{Found}
 use Rattle.pairs.specs.declared.Found.the-variants.{At, Nothing}
-use Rattle.pairs.specs.declared.Checked.{Checked}
-use Rattle.pairs.specs.declared.Checked.the-variants.{Accepted, UniverseTimeout, SourcesExceeded, OutOfSequence, PairsFull, SourceWithoutPairs}
-use Rattle.pairs.specs.Table.{Key, key, keyOf, key-before, key-order, itself, Table, capacity, pairAt, has, listed, leave, live, swept, unknown, full, first-of, sequence-stop, source-stop, reached, stop, recorded}
-use Rattle.pairs.specs.Laws.{same-not, has-store, has-remove, stale}
-use Rattle.pairs.specs.View.{Rows, cidOf, pairOf, pairsOf, sourcesOf, placed, older, lonely, pair-stop}
+use Rattle.pairs.specs.declared.Checked.the-variants.{Accepted, SourcesExceeded, OutOfSequence, PairsFull, SourceWithoutPairs}
+use Rattle.pairs.specs.Table.{Key, key, keyOf, key-before, key-order, itself, Table, capacity, pairAt, has, listed, leave, live, swept, unknown, full, sequence-stop, source-stop, reached, stop, recorded}
+use Rattle.pairs.specs.Laws.{has-store, has-remove, stale}
+use Rattle.pairs.specs.View.{Rows, placed, older, lonely, pair-stop}
 
 -- ── what finding says ──
 pub placed-at : {A : Type 0} (j i : ℕ) (o : Option A) → placed j o ≡ At i → (a : A) × (o ≡ some a) × (j ≡ i)
@@ -47,17 +45,23 @@ module _ {K E : Type 0} (lt : K → K → Bool) (key : E → K) (O : Order lt) (
       let g = found-place lt key O k (map f (take n rows)) x (f []) h in
       omega (arith, g .0, length-map (take n rows) f, length-take n rows)
 
-  pub rows-inserted : (v : List ℕ) (i : ℕ) (after : Rows) → find lt key (key (f v)) (map f (take n rows)) ≡ none → i ≡ place lt key (key (f v)) (map f (take n rows))
-      → take (n + 1) after ≡ insertAt i v (take n rows) → map f (take (n + 1) after) ≡ store lt key (f v) (map f (take n rows))
-  rows-inserted v i after h e t =
-      ap (map f) t ∙ insertAt-map f i v (take n rows) ∙ ap (λ (j : ℕ). insertAt j (f v) (map f (take n rows))) e
-      ∙ sym (store-insert lt key O (key (f v)) (map f (take n rows)) (f v) refl h)
+  -- and holds what was found
+  pub found-read : (k : K) (x : E) (i : ℕ) → find lt key k (map f (take n rows)) ≡ some x → place lt key k (map f (take n rows)) ≡ i → f (getD rows i []) ≡ x
+  found-read k x i h e =
+      let g = found-place lt key O k (map f (take n rows)) x (f []) h in
+      sym (ap f (getD-take n rows i [] (found-inside k x i h e))) ∙ sym (getD-map f (take n rows) i []) ∙ ap (λ (j : ℕ). getD (map f (take n rows)) j (f [])) (sym e) ∙ g .1
 
-  pub rows-replaced : (v : List ℕ) (x : E) (i : ℕ) → find lt key (key (f v)) (map f (take n rows)) ≡ some x → place lt key (key (f v)) (map f (take n rows)) ≡ i
-      → map f (take n (set rows i v)) ≡ store lt key (f v) (map f (take n rows))
-  rows-replaced v x i h e =
-      ap (map f) (replace rows n i v) ∙ set-map f (take n rows) i v ∙ ap (λ (j : ℕ). set (map f (take n rows)) j (f v)) (sym e)
-      ∙ sym (store-replace lt key O (key (f v)) (map f (take n rows)) (f v) x refl h)
+  pub rows-inserted : (v : List ℕ) (y : E) (i : ℕ) (after : Rows) → f v ≡ y → find lt key (key y) (map f (take n rows)) ≡ none → i ≡ place lt key (key y) (map f (take n rows))
+      → take (n + 1) after ≡ insertAt i v (take n rows) → map f (take (n + 1) after) ≡ store lt key y (map f (take n rows))
+  rows-inserted v y i after w h e t =
+      ap (map f) t ∙ insertAt-map f i v (take n rows) ∙ ap (λ (z : E). insertAt i z (map f (take n rows))) w ∙ ap (λ (j : ℕ). insertAt j y (map f (take n rows))) e
+      ∙ sym (store-insert lt key O (key y) (map f (take n rows)) y refl h)
+
+  pub rows-replaced : (v : List ℕ) (y x : E) (i : ℕ) → f v ≡ y → find lt key (key y) (map f (take n rows)) ≡ some x → place lt key (key y) (map f (take n rows)) ≡ i
+      → map f (take n (set rows i v)) ≡ store lt key y (map f (take n rows))
+  rows-replaced v y x i w h e =
+      ap (map f) (replace rows n i v) ∙ set-map f (take n rows) i v ∙ ap (λ (z : E). set (map f (take n rows)) i z) w ∙ ap (λ (j : ℕ). set (map f (take n rows)) j y) (sym e)
+      ∙ sym (store-replace lt key O (key y) (map f (take n rows)) y x refl h)
 
   pub rows-removed : (k : K) (x : E) (i : ℕ) (after : Rows) → find lt key k (map f (take n rows)) ≡ some x → place lt key k (map f (take n rows)) ≡ i
       → take (n - 1) after ≡ removeAt i (take n rows) → map f (take (n - 1) after) ≡ remove lt key k (map f (take n rows))

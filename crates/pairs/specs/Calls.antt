@@ -1,36 +1,57 @@
 -- What each return of a call comes to, from what its parts have done to the rows.
 -- Assumes nothing.
 use mathlib.Core.Path.{_≡_, refl, sym, ap, subst, _∙_}
-use mathlib.Core.Logic.{_≢_, ⊎-elim}
-use mathlib.Core.Bool.{Bool, true, false, not, cond, _&&_}
+use mathlib.Core.Logic.{⊎-elim}
+use mathlib.Core.Bool.{Bool, true, false, not, _&&_}
 use mathlib.Core.Option.{Option, none, some}
-use mathlib.Core.List.{List, [], map}
-use Prim.Native.Nat.{ℕ, _≤_, _<_}
+use mathlib.Core.List.{List, map}
+use Prim.Native.Nat.{ℕ, _+_, _≤_, _<_}
 use native.Mathlib.Omega.{arith}
-use lib.Dec.{leb}
 use lib.ListN.{length, take, length-take, length-map}
 use borrow.Author.Tests.{le-leb, lt-leb}
-use Rattle.table.specs.Cases.{split, clash, found, missing}
-use Rattle.table.specs.Table.{keep, find, store, remove, Ascending}
+use Rattle.table.specs.Cases.{split, clash}
+use Rattle.table.specs.Table.{keep, find, store, remove}
 use Rattle.rules.specs.declared.Cid.{Cid}
-use Rattle.rules.specs.Cid.{before, cid-order}
+use Rattle.rules.specs.Cid.{before}
 use Rattle.rules.specs.Age.{expired}
 use Rattle.settings.specs.declared.SourceLimit.{SourceLimit}
 use Rattle.pairs.specs.declared.Pair.{Pair}
 use Rattle.pairs.specs.declared.PairTable.{PairTable}
 use Rattle.pairs.specs.declared.Checked.{Checked}
 use Rattle.pairs.specs.declared.Checked.the-variants.{Accepted, UniverseTimeout, SourcesExceeded, OutOfSequence, PairsFull, SourceWithoutPairs}
-use Rattle.pairs.specs.declared.SweepAnswer.{SweepAnswer}
 use Rattle.pairs.specs.declared.SweepAnswer.the-variants.{Quiet, TimedOut}
-use Rattle.pairs.specs.Table.{Key, key, keyOf, key-before, key-order, itself, Table, capacity, pairAt, has, listed, leave, without, live, swept, noted, told, sweep, reached, stop, recorded, admit, after-sweep, check, Ordered}
-use Rattle.pairs.specs.Laws.{stale, without-unknown, without-known, ordered-without, ordered-swept, noted-none, swept-quiet, admit-stored, admit-stopped, ordered-admit, check-quiet, check-told}
-use Rattle.pairs.specs.View.{Rows, cidOf, pairOf, pairsOf, sourcesOf, tableOf, older, lonely, Kept, Follows, answered, answerOf, removal, noteOf, pair-stop, PairsKept, Stored, Admitted, accepted}
+use Rattle.pairs.specs.Table.{Key, key, keyOf, key-before, itself, Table, capacity, pairAt, has, listed, leave, without, live, swept, noted, told, sweep, reached, stop, recorded, admit, check, Ordered}
+use Rattle.pairs.specs.Laws.{without-unknown, without-known, ordered-without, ordered-swept, noted-none, swept-quiet, admit-stored, admit-stopped, ordered-admit, check-quiet, check-told}
+use Rattle.pairs.specs.View.{Rows, cidOf, pairsOf, sourcesOf, tableOf, older, Kept, Follows, answered, answerOf, removal, noteOf, pair-stop, PairsKept, Stored, Admitted, accepted}
 use Rattle.pairs.specs.Sweep.{fresh, note-none, note-some}
-use Rattle.pairs.specs.Admit.{older-removed, lonely-without, lonely-swept, lonely-recorded, swept-idle, stop-listed, stop-lonely, stop-limit, stop-full, stop-unlisted, listed-some, listed-none, recorded-listed, never-accepted}
+use Rattle.pairs.specs.Admit.{older-removed, older-stored, lonely-without, lonely-swept, lonely-recorded, swept-idle, stop-listed, stop-limit, stop-full, stop-unlisted, listed-some, listed-none, recorded-listed, never-accepted}
+
+pub accepted-is : (a : Checked) → accepted a ≡ true → a ≡ Accepted
+accepted-is Accepted e = refl
+accepted-is (UniverseTimeout c u) e = let z : _≡_ {A = ℕ} 0 1 = cc in absurd (omega arith)
+accepted-is (SourcesExceeded n) e = let z : _≡_ {A = ℕ} 0 1 = cc in absurd (omega arith)
+accepted-is (OutOfSequence a l d) e = let z : _≡_ {A = ℕ} 0 1 = cc in absurd (omega arith)
+accepted-is PairsFull e = let z : _≡_ {A = ℕ} 0 1 = cc in absurd (omega arith)
+accepted-is SourceWithoutPairs e = let z : _≡_ {A = ℕ} 0 1 = cc in absurd (omega arith)
 
 -- the number of rows in use is what the header says
 pub used : {E : Type 0} (f : List ℕ → E) (n : ℕ) (rows : Rows) → n ≤ 1024 → length rows ≡ 1024 → length (map f (take n rows)) ≡ n
 used f n rows h l = length-map (take n rows) f ∙ omega (arith, length-take n rows)
+
+-- a pair is stored among the rows
+pub stored-as : (t : PairTable) (pairs : Rows) (p : Pair) (n o : ℕ) (after : Rows) → PairsKept t pairs → length after ≡ 1024 → n ≤ 1024
+    → pairsOf n after ≡ store key-before keyOf p (pairsOf (t .count) pairs) → o ≤ t .oldest → o ≤ p .reading
+    → Stored t pairs (record { count = n; «source_count» = t .«source_count»; oldest = o; tidy = t .tidy }) after p
+stored-as t pairs p n o after k l nf e a b = record {
+  pairs-are = e;
+  same-sources = refl;
+  same-tidy = refl;
+  kept = record {
+    pairs-room = l;
+    count-fits = nf;
+    none-older = subst (λ (ps : List Pair). older o ps ≡ false) (sym e) (older-stored (t .oldest) o p (pairsOf (t .count) pairs) a b (k .none-older));
+  };
+}
 
 module _ (t : PairTable) (pairs sources : Rows) (k : Kept t pairs sources) where
   abbrev here : Table
@@ -181,3 +202,55 @@ module _ (t : PairTable) (pairs sources : Rows) (k : Kept t pairs sources) where
       where
         stays : (u : PairTable) (pairs′ : Rows) (a : Checked) → stop limit p here ≡ some a → u ≡ t → pairs′ ≡ pairs → Follows u pairs′ sources a (admit limit p here)
         stays u pairs′ a e f g = subst (λ (v : PairTable). Follows v pairs′ sources a (admit limit p here)) (sym f) (subst (λ (r : Rows). Follows t r sources a (admit limit p here)) (sym g) (admit-stays a e))
+
+    -- the CID is not listed: the limit, the room on the list, then the pairs
+    module _ (f : find before itself (p .cid) (here .sources) ≡ none) where
+      off : listed (p .cid) (here .sources) ≡ false
+      off = listed-none (p .cid) (here .sources) f
+
+      long : length (here .sources) ≡ t .«source_count»
+      long = used cidOf (t .«source_count») sources (k .source-count-fits) (k .sources-room)
+
+      pub admit-limit : reached limit (t .«source_count») ≡ true → Follows t pairs sources (SourcesExceeded (t .«source_count»)) (admit limit p here)
+      admit-limit r = admit-stays (SourcesExceeded (t .«source_count»)) (stop-limit limit p here off (rw long r) ∙ ap (λ (n : ℕ). some (SourcesExceeded n)) long)
+
+      module _ (r : reached limit (t .«source_count») ≡ false) where
+        pub admit-full : 1024 ≤ t .«source_count» → Follows t pairs sources PairsFull (admit limit p here)
+        admit-full h = admit-stays PairsFull (stop-full limit p here off (rw long r) (le-leb capacity (length (here .sources)) (omega (arith, long))))
+
+        module _ (h : t .«source_count» < 1024) (u : PairTable) (pairs′ : Rows) (a : Checked) (w : Admitted t pairs u pairs′ a p) where
+          by-pairs : stop limit p here ≡ pair-stop p (here .pairs)
+          by-pairs = stop-unlisted limit p here off (rw long r) (lt-leb capacity (length (here .sources)) (omega (arith, long)))
+
+          pub admit-refused : accepted a ≡ false → Follows u pairs′ sources a (admit limit p here)
+          admit-refused g =
+              ⊎-elim
+              (λ v. clash (ap accepted (v .1)) g)
+              (λ v. subst (λ (x : PairTable). Follows x pairs′ sources a (admit limit p here)) (sym (v .1)) (subst (λ (x : Rows). Follows t x sources a (admit limit p here)) (sym (v .2)) (admit-stays a (by-pairs ∙ v .0))))
+              w
+
+          module _ (sources′ : Rows) (ls : length sources′ ≡ 1024) (es : sourcesOf (t .«source_count» + 1) sources′ ≡ store before itself (p .cid) (here .sources)) where
+            abbrev joined : PairTable
+            joined = record { count = u .count; «source_count» = t .«source_count» + 1; oldest = u .oldest; tidy = u .tidy }
+
+            pub admit-joins : accepted a ≡ true → Follows joined pairs′ sources′ Accepted (admit limit p here)
+            admit-joins g =
+                ⊎-elim
+                (λ v.
+                let q = v .2 .kept in
+                admit-goes (by-pairs ∙ v .0) joined pairs′ sources′
+                (record { pairs-room = q .pairs-room; count-fits = q .count-fits; none-older = q .none-older }) ls (omega arith) (v .2 .same-tidy) (v .2 .pairs-are) es)
+                (λ v. absurd (never-accepted p (here .pairs) (v .0 ∙ ap some (accepted-is a g))))
+                w
+
+  -- ── the whole arrival ──
+  pub check-timeout : (limit : SourceLimit) (announce : Bool) (p : Pair) (now : Table × Option Key) (c : Cid) (u : ℕ) → sweep announce (p .reading) here ≡ now → TimedOut c u ≡ answerOf (now .1)
+      → check limit announce p here ≡ (now .0, UniverseTimeout c u)
+  check-timeout limit announce p (v, none) c u e f = let z : _≡_ {A = ℕ} 0 1 = cc in absurd (omega arith)
+  check-timeout limit announce p (v, some j) c u e f =
+      check-told limit announce p here v j e ∙ (let g : UniverseTimeout (j .cid) (j .universe) ≡ UniverseTimeout c u = cc in ap (λ (a : Checked). (v, a)) g)
+
+  pub check-goes : (limit : SourceLimit) (announce : Bool) (p : Pair) (now : Table × Option Key) → sweep announce (p .reading) here ≡ now → Quiet ≡ answerOf (now .1)
+      → check limit announce p here ≡ admit limit p (now .0)
+  check-goes limit announce p (v, none) e f = check-quiet limit announce p here v e
+  check-goes limit announce p (v, some j) e f = let z : _≡_ {A = ℕ} 0 1 = cc in absurd (omega arith)

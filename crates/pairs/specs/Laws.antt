@@ -2,18 +2,18 @@
 -- Assumes nothing.
 use mathlib.Core.Path.{_≡_, refl, sym, ap, _∙_}
 use mathlib.Core.Logic.{_≢_}
-use mathlib.Core.Bool.{Bool, true, false, not, cond, _&&_, _||_}
+use mathlib.Core.Bool.{Bool, true, false, not, cond, _&&_}
 use mathlib.Core.Option.{Option, none, some}
 use mathlib.Core.List.{List, [], _∷_}
-use Prim.Native.Nat.{ℕ, suc, _≤_, _<_, _-_}
+use Prim.Native.Nat.{ℕ, _≤_, _-_}
 use native.Mathlib.Omega.{arith}
-use lib.Dec.{ltb, leb}
+use lib.Dec.{leb}
 use lib.ListN.{length}
-use borrow.Author.Tests.{leb-true, leb-false, lt-leb}
+use borrow.Author.Tests.{leb-false, lt-leb}
 use Rattle.table.specs.Cases.{split, clash, found, missing}
-use Rattle.table.specs.Order.{Order, tri, keyed}
-use Rattle.table.specs.Table.{keep, any, find, store, remove, Ascending, pass, other-than, ext, keep-idem, keep-implied, keep-all, length-keep, length-remove}
-use Rattle.table.specs.Table.{find-key, find-store-same, find-store-other, find-keep, find-remove-other, find-remove-same, remove-absent, remove-keep}
+use Rattle.table.specs.Order.{tri, keyed}
+use Rattle.table.specs.Table.{keep, any, find, store, remove, Ascending, pass, other-than, ext, keep-idem, keep-all, length-keep, length-remove}
+use Rattle.table.specs.Table.{find-store-same, find-store-other, find-keep, find-remove-other, find-remove-same, remove-absent, remove-keep}
 use Rattle.table.specs.Table.{ascending-store, ascending-keep, ascending-remove, length-store-new, length-store-known, store-store, remove-store, remove-remove, keep-store, keep-remove}
 use Rattle.rules.specs.declared.Cid.{Cid}
 use Rattle.rules.specs.Cid.{same, before, cid-order, same-refl, same-path}
@@ -22,9 +22,9 @@ use Rattle.rules.specs.Sequence.{difference, refused}
 use Rattle.settings.specs.declared.SourceLimit.{SourceLimit}
 use Rattle.pairs.specs.declared.Pair.{Pair}
 use Rattle.pairs.specs.declared.Checked.{Checked}
-use Rattle.pairs.specs.declared.Checked.the-variants.{Accepted, UniverseTimeout, SourcesExceeded, OutOfSequence, PairsFull, SourceWithoutPairs}
-use Rattle.pairs.specs.Table.{Key, key, keyOf, key-before, key-order, itself, Table, capacity, empty, pairAt, has, listed, leave, without, live, swept, lowest, later, last-noted, noted, told, sweep}
-use Rattle.pairs.specs.Table.{recorded, reached, source-stop, unknown, full, sequence-stop, first-of, stop, settle, admit, after-sweep, check, numberOf, Ordered}
+use Rattle.pairs.specs.declared.Checked.the-variants.{Accepted, UniverseTimeout, SourcesExceeded, PairsFull, SourceWithoutPairs}
+use Rattle.pairs.specs.Table.{Key, keyOf, key-before, key-order, itself, Table, capacity, empty, pairAt, has, listed, leave, without, live, swept, lowest, noted, told, sweep}
+use Rattle.pairs.specs.Table.{recorded, reached, source-stop, unknown, full, sequence-stop, stop, settle, admit, after-sweep, check, Ordered}
 
 -- ── CIDs and keys that differ ──
 pub same-not : (a b : Cid) → a ≢ b → same a b ≡ false

@@ -1,29 +1,27 @@
 -- Lists of rows seen through what they stand for: one law for each kind of loop turn and return of the code.
 -- Assumes nothing.
-use mathlib.Core.Path.{_≡_, refl, sym, ap, _∙_}
+use mathlib.Core.Path.{_≡_, sym, ap, _∙_}
 use mathlib.Core.Logic.{_≢_}
-use mathlib.Core.Bool.{Bool, true, false, not, cond, _&&_}
-use mathlib.Core.Option.{Option, none, some}
+use mathlib.Core.Bool.{Bool, true, false}
+use mathlib.Core.Option.{none, some}
 use mathlib.Core.List.{List, [], _∷_, _++_, map}
-use Prim.Native.Nat.{ℕ, suc, _+_, _≤_, _<_}
+use Prim.Native.Nat.{ℕ, _+_, _≤_, _<_}
 use native.Mathlib.Omega.{arith}
 use native.Mathlib.Numerals.{add-one}
-use lib.Dec.{ltb, eqb}
-use lib.ListN.{length, take, drop, getD, set, length-take, length-map}
+use lib.Dec.{ltb}
+use lib.ListN.{length, take, getD, length-take, length-map}
 use lib.Seq.{getD-take, take-suc}
-use borrow.Author.Tests.{eqb-true, eq-eqb, ltb-true, ltb-false, lt-ltb, le-ltb}
-use Rattle.table.specs.Cases.{split, clash, found, missing}
-use Rattle.table.specs.Order.{Order, tri, keyed, beyond, before-by}
-use Rattle.table.specs.Table.{keep, any, find, store, remove, Ascending, Under, keep-map, any-map}
-use Rattle.table.specs.Place.{place, prefix, absent, absent-end, present, getD-map, prefix-map}
+use borrow.Author.Tests.{eqb-true, eq-eqb, ltb-false, le-ltb}
+use Rattle.table.specs.Cases.{split, clash}
+use Rattle.table.specs.Order.{Order, before-by}
+use Rattle.table.specs.Table.{any, find}
+use Rattle.table.specs.Place.{place, prefix, absent, absent-end, present, getD-map}
 use Rattle.rules.specs.declared.Cid.{Cid}
-use Rattle.rules.specs.Cid.{same, before, cid-order, same-refl, same-path}
+use Rattle.rules.specs.Cid.{same, same-refl, same-path}
 use Rattle.pairs.specs.declared.Pair.{Pair}
-use Rattle.pairs.specs.declared.Found.{Found}
 use Rattle.pairs.specs.declared.Found.the-variants.{At, Nothing}
-use Rattle.pairs.specs.Table.{Key, key, keyOf, key-before, key-order, itself, has, pairAt}
-use Rattle.pairs.specs.Laws.{same-not}
-use Rattle.pairs.specs.View.{Rows, cidOf, pairOf, pairsOf, sourcesOf, placed, foundAt, sourceAt, same-key, older, row-before}
+use Rattle.pairs.specs.Table.{Key, key, keyOf}
+use Rattle.pairs.specs.View.{Rows, pairOf, pairsOf, placed, same-key, older}
 
 -- ── keys ──
 pub same-key-path : (p : Pair) (c : Cid) (u : ℕ) → same-key p c u ≡ true → keyOf p ≡ key c u

@@ -2,30 +2,29 @@
 -- Assumes nothing.
 use mathlib.Core.Path.{_≡_, refl, sym, ap, _∙_}
 use mathlib.Core.Logic.{_≢_}
-use mathlib.Core.Bool.{Bool, true, false, not, cond, _&&_}
+use mathlib.Core.Bool.{Bool, true, false}
 use mathlib.Core.Option.{Option, none, some}
 use mathlib.Core.List.{List, [], _∷_, _++_, map, append-nil}
 use Prim.Native.Nat.{ℕ, zero, suc, _+_, _-_, _≤_, _<_}
 use native.Mathlib.Omega.{arith}
-use native.Mathlib.Numerals.{add-one}
-use lib.Dec.{ltb, leb}
-use lib.ListN.{length, take, drop, getD, set, length-take, length-map, take-append-drop}
+use lib.Dec.{ltb}
+use lib.ListN.{length, take, drop, getD, set, take-append-drop}
 use lib.Seq.{drop-drop}
-use borrow.Author.Tests.{ltb-true, ltb-false, leb-true, leb-false, lt-ltb, le-ltb, lt-leb, le-leb}
-use Rattle.table.specs.Cases.{split, clash, found, missing}
-use Rattle.table.specs.Order.{Order, tri, keyed, asym, beyond, before-by}
-use Rattle.table.specs.Table.{keep, any, find, store, remove, Ascending, Under, keep-map, keep-all}
+use borrow.Author.Tests.{ltb-false, leb-false, lt-leb}
+use Rattle.table.specs.Cases.{split, clash, found}
+use Rattle.table.specs.Order.{tri, asym, beyond}
+use Rattle.table.specs.Table.{keep, any, Ascending, Under, keep-map}
 use Rattle.table.specs.Place.{prefix, drop-map, append-map}
-use Rattle.table.specs.Arrays.{next, spent, untouched, compact-keep, compact-drop}
+use Rattle.table.specs.Arrays.{next, untouched, compact-keep, compact-drop}
 use Rattle.rules.specs.declared.Cid.{Cid}
-use Rattle.rules.specs.Cid.{same, before, cid-order, same-refl, same-path}
+use Rattle.rules.specs.Cid.{same, before, cid-order, same-refl}
 use Rattle.rules.specs.Age.{expired}
 use Rattle.pairs.specs.declared.Pair.{Pair}
 use Rattle.pairs.specs.declared.SweepAnswer.{SweepAnswer}
 use Rattle.pairs.specs.declared.SweepAnswer.the-variants.{Quiet, TimedOut}
-use Rattle.pairs.specs.Table.{Key, key, keyOf, key-before, key-order, itself, has, live, lowest, later, last-noted, noted}
+use Rattle.pairs.specs.Table.{Key, key, keyOf, key-before, itself, has, live, lowest, later, last-noted, noted}
 use Rattle.pairs.specs.Laws.{same-not, stale}
-use Rattle.pairs.specs.View.{Rows, cidOf, pairOf, pairsOf, sourcesOf, row-before, starts, lapsed, older, lonely, noteOf}
+use Rattle.pairs.specs.View.{Rows, cidOf, pairOf, sourcesOf, row-before, starts, lapsed, older, noteOf}
 use Rattle.pairs.specs.Rows.{by-first-not}
 
 -- ── an ascending list from a place on ──

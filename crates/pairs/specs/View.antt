@@ -6,7 +6,7 @@ use mathlib.Core.Logic.{_⊎_}
 use mathlib.Core.Bool.{Bool, true, false, not, cond, _&&_}
 use mathlib.Core.Option.{Option, none, some}
 use mathlib.Core.List.{List, [], _∷_, map}
-use Prim.Native.Nat.{ℕ, _≤_, _/_, _%_}
+use Prim.Native.Nat.{ℕ, _≤_, _<_, _/_, _%_}
 use lib.Dec.{ltb, leb, eqb}
 use lib.ListN.{length, take, getD}
 use Rattle.table.specs.Table.{any, find, store, Ascending}
@@ -23,7 +23,7 @@ use Rattle.pairs.specs.declared.Checked.{Checked}
 use Rattle.pairs.specs.declared.Checked.the-variants.{Accepted, UniverseTimeout, SourcesExceeded, OutOfSequence, PairsFull, SourceWithoutPairs}
 use Rattle.pairs.specs.declared.SweepAnswer.{SweepAnswer}
 use Rattle.pairs.specs.declared.SweepAnswer.the-variants.{Quiet, TimedOut}
-use Rattle.pairs.specs.Table.{Key, key, keyOf, key-before, itself, Table, capacity, empty, pairAt, has, without, unknown, first-of, sequence-stop, Ordered}
+use Rattle.pairs.specs.Table.{Key, keyOf, key-before, itself, Table, capacity, empty, pairAt, has, without, unknown, first-of, sequence-stop, Ordered}
 
 abbrev pub Rows : Type 0
 Rows = List (List ℕ)
@@ -129,6 +129,10 @@ pub record Follows {A : Type 0} (t : PairTable) (pairs sources : Rows) (answer :
   pub answer-is : answer ≡ said .1
   pub kept : Kept t pairs sources
 
+-- an arriving pair
+abbrev pub arriving : Cid → ℕ → ℕ → ℕ → Pair
+arriving c u s r = record { cid = c; universe = u; sequence = s; reading = r }
+
 -- a sweep with its answer, and a removal that says whether the pair was there
 abbrev pub answered : Table × Option Key → Table × SweepAnswer
 answered r = (r .0, answerOf (r .1))
@@ -160,6 +164,20 @@ abbrev pub Admitted : PairTable → Rows → PairTable → Rows → Checked → 
 Admitted t pairs u after answer p =
     ((pair-stop p (pairsOf (t .count) pairs) ≡ none) × (answer ≡ Accepted) × Stored t pairs u after p)
     ⊎ ((pair-stop p (pairsOf (t .count) pairs) ≡ some answer) × (u ≡ t) × (after ≡ pairs))
+
+-- what the steps of an arrival require
+pub record NewPair (t : PairTable) (pairs : Rows) (p : Pair) : Type 0 where
+  pub kept : PairsKept t pairs
+  pub room : t .count < 1024
+  pub missing : pairAt (keyOf p) (pairsOf (t .count) pairs) ≡ none
+
+pub record KnownPair (t : PairTable) (pairs : Rows) (at : ℕ) (p : Pair) : Type 0 where
+  pub kept : PairsKept t pairs
+  pub stands : At at ≡ foundAt (keyOf p) (pairsOf (t .count) pairs)
+
+pub record NewSource (t : PairTable) (pairs sources : Rows) (p : Pair) : Type 0 where
+  pub kept : Kept t pairs sources
+  pub missing : find before itself (p .cid) (sourcesOf (t .«source_count») sources) ≡ none
 
 abbrev pub accepted : Checked → Bool
 accepted Accepted = true

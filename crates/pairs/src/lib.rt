@@ -5,15 +5,14 @@ mod search;
 mod sweep;
 
 ghost use mathlib.Core.Path.{_≡_};
-ghost use mathlib.Core.Bool.{Bool, true, false, not, _&&_};
-ghost use mathlib.Core.Option.{none};
+ghost use mathlib.Core.Bool.{true, false, not, _&&_};
 ghost use Prim.Native.Nat.{_≤_, _<_};
 ghost use lib.ListN.{length};
-ghost use Rattle.table.specs.Table.{store, remove};
+ghost use Rattle.table.specs.Table.{remove};
 ghost use Rattle.rules.specs.Age.{expired};
 ghost use Rattle.rules.specs.Cid.{before};
-ghost use Rattle.pairs.specs.Table.{key, keyOf, key-before, itself, pairAt, has, reached, sweep, admit, check};
-ghost use Rattle.pairs.specs.View.{pairsOf, sourcesOf, tableOf, foundAt, answered, removal, accepted, Kept, Emptied, Follows, PairsKept, Stored, Admitted};
+ghost use Rattle.pairs.specs.Table.{key, itself, has, reached, sweep, admit, check};
+ghost use Rattle.pairs.specs.View.{pairsOf, sourcesOf, tableOf, foundAt, answered, removal, accepted, Kept, Emptied, Follows, PairsKept, Stored, Admitted, NewPair, KnownPair, NewSource, arriving};
 use crate::rows::insert_pair;
 use crate::rows::insert_source;
 use crate::rows::pair_of;
@@ -101,7 +100,7 @@ pub struct Arrival {
 }
 
 // The number of listed CIDs is at the limit.
-pub fn is_reached(limit: SourceLimit, n: usize) -> bool
+fn is_reached(limit: SourceLimit, n: usize) -> bool
     ensures { λ r. ⌜ r ≡ reached limit n ⌝ }
 {
     match limit {
@@ -110,7 +109,7 @@ pub fn is_reached(limit: SourceLimit, n: usize) -> bool
     }
 }
 
-pub fn is_accepted(answer: Checked) -> bool
+fn is_accepted(answer: Checked) -> bool
     ensures { λ r. ⌜ r ≡ accepted answer ⌝ }
 {
     match answer {
@@ -124,7 +123,7 @@ pub fn is_accepted(answer: Checked) -> bool
 }
 
 // The CID taken off the list; how many are left.
-pub fn drop_source(sources: &mut [[u64; 2]; 1024], n: usize, cid: Cid) -> usize
+fn drop_source(sources: &mut [[u64; 2]; 1024], n: usize, cid: Cid) -> usize
     requires { ⌜ (n ≤ 1024) × (length (now sources) ≡ 1024) ⌝ }
     ensures { λ r. ⌜ (r ≤ n) × (length (now (sources .exit)) ≡ 1024) × (sourcesOf r (now (sources .exit)) ≡ remove before itself cid (sourcesOf n (now (sources .entry)))) ⌝ }
 {
@@ -210,7 +209,7 @@ impl PairTable {
     }
 
     // No pair can be expired and no CID be without a pair.
-    pub fn is_idle(self, reading: u64) -> bool
+    fn is_idle(self, reading: u64) -> bool
         ensures { λ r. ⌜ r ≡ self .tidy && not (expired reading (self .oldest)) ⌝ }
     {
         if self.tidy {
@@ -220,7 +219,7 @@ impl PairTable {
     }
 
     // All expired pairs go, and every CID without a pair.
-    pub fn sweep_expired(
+    fn sweep_expired(
         self,
         pairs: &mut [[u64; 4]; 1024],
         sources: &mut [[u64; 2]; 1024],
@@ -251,7 +250,7 @@ impl PairTable {
     }
 
     // The pair of the last source noted goes, and is told.
-    pub fn sweep_announced(
+    fn sweep_announced(
         self,
         pairs: &mut [[u64; 4]; 1024],
         sources: &mut [[u64; 2]; 1024],
@@ -300,5 +299,413 @@ impl PairTable {
             return self.sweep_announced(pairs, sources, reading);
         }
         self.sweep_expired(pairs, sources, reading)
+    }
+
+    // A pair that is not held goes in at its place.
+    fn store_new(self, pairs: &mut [[u64; 4]; 1024], pair: Pair) -> PairTable
+        requires { ⌜ NewPair self (now pairs) pair ⌝ }
+        ensures { λ r. ⌜ Stored self (now (pairs .entry)) r (now (pairs .exit)) pair ⌝ }
+    {
+        let n = self.count;
+        let cid = pair.cid;
+        let at = place_of(&*pairs, n, cid, pair.universe);
+        let row = pair_row(pair);
+        insert_pair(&mut *pairs, n, at, row);
+        let oldest = earlier(self.oldest, pair.reading);
+        PairTable {
+            count: n + 1,
+            source_count: self.source_count,
+            oldest: oldest,
+            tidy: self.tidy,
+        }
+    }
+
+    // A pair takes the place of the one with its key.
+    fn store_known(self, pairs: &mut [[u64; 4]; 1024], at: usize, pair: Pair) -> PairTable
+        requires { ⌜ KnownPair self (now pairs) at pair ⌝ }
+        ensures { λ r. ⌜ Stored self (now (pairs .entry)) r (now (pairs .exit)) pair ⌝ }
+    {
+        let row = pair_row(pair);
+        pairs[at] = row;
+        let least = earlier(self.oldest, pair.reading);
+        PairTable {
+            count: self.count,
+            source_count: self.source_count,
+            oldest: least,
+            tidy: self.tidy,
+        }
+    }
+
+    // Rules 3 to 5 for the pairs: full, refused, or stored.
+    fn admit_pair(self, pairs: &mut [[u64; 4]; 1024], pair: Pair) -> Arrival
+        requires { ⌜ PairsKept self (now pairs) ⌝ }
+        ensures { λ r. ⌜ Admitted self (now (pairs .entry)) (r .table) (now (pairs .exit)) (r .answer) pair ⌝ }
+    {
+        let cid = pair.cid;
+        let Found::At(at) = self.find(&*pairs, cid, pair.universe) else {
+            if 1024 <= self.count {
+                return Arrival {
+                    table: self,
+                    answer: Checked::PairsFull,
+                };
+            }
+            let table = self.store_new(&mut *pairs, pair);
+            return Arrival {
+                table: table,
+                answer: Checked::Accepted,
+            };
+        };
+        let row = pairs[at];
+        let last = pair_of(row);
+        let difference = sequence_difference(pair.sequence, last.sequence);
+        if is_sequence_refused(difference) {
+            return Arrival {
+                table: self,
+                answer: Checked::OutOfSequence(pair.sequence, last.sequence, difference),
+            };
+        }
+        let table = self.store_known(&mut *pairs, at, pair);
+        Arrival {
+            table: table,
+            answer: Checked::Accepted,
+        }
+    }
+
+    // Whether a listed CID has a pair.
+    fn owns_pair(self, pairs: &[[u64; 4]; 1024], cid: Cid) -> bool
+        requires { ⌜ (self .count ≤ 1024) × (length (now pairs) ≡ 1024) × (self .tidy ≡ true → has (pairsOf (self .count) (now pairs)) cid ≡ true) ⌝ }
+        ensures { λ r. ⌜ r ≡ has (pairsOf (self .count) (now (pairs .entry))) cid ⌝ }
+    {
+        if self.tidy {
+            return true;
+        }
+        has_pair(pairs, self.count, cid)
+    }
+
+    // Rules 2 to 5 for a CID that is not listed.
+    fn admit_source(
+        self,
+        pairs: &mut [[u64; 4]; 1024],
+        sources: &mut [[u64; 2]; 1024],
+        limit: SourceLimit,
+        pair: Pair,
+    ) -> Arrival
+        requires { ⌜ NewSource self (now pairs) (now sources) pair ⌝ }
+        ensures { λ r. ⌜ Follows (r .table) (now (pairs .exit)) (now (sources .exit)) (r .answer) (admit limit pair (tableOf self (now (pairs .entry)) (now (sources .entry)))) ⌝ }
+    {
+        let n = self.source_count;
+        if is_reached(limit, n) {
+            return Arrival {
+                table: self,
+                answer: Checked::SourcesExceeded(n),
+            };
+        }
+        if 1024 <= n {
+            return Arrival {
+                table: self,
+                answer: Checked::PairsFull,
+            };
+        }
+        let r = self.admit_pair(&mut *pairs, pair);
+        let t = r.table;
+        let answer = r.answer;
+        if is_accepted(answer) {
+            let cid = pair.cid;
+            let at = source_place(&*sources, n, cid);
+            let row = source_row(cid);
+            insert_source(&mut *sources, n, at, row);
+            let table = PairTable {
+                count: t.count,
+                source_count: n + 1,
+                oldest: t.oldest,
+                tidy: t.tidy,
+            };
+            return Arrival {
+                table: table,
+                answer: Checked::Accepted,
+            };
+        }
+        Arrival {
+            table: t,
+            answer: answer,
+        }
+    }
+
+    // Rules 2 to 5, on the table as swept.
+    pub fn admit(
+        self,
+        pairs: &mut [[u64; 4]; 1024],
+        sources: &mut [[u64; 2]; 1024],
+        limit: SourceLimit,
+        pair: Pair,
+    ) -> Arrival
+        requires { ⌜ Kept self (now pairs) (now sources) ⌝ }
+        ensures { λ r. ⌜ Follows (r .table) (now (pairs .exit)) (now (sources .exit)) (r .answer) (admit limit pair (tableOf self (now (pairs .entry)) (now (sources .entry)))) ⌝ }
+    {
+        let cid = pair.cid;
+        let Found::At(_) = find_source(&*sources, self.source_count, cid) else {
+            return self.admit_source(pairs, sources, limit, pair);
+        };
+        if self.owns_pair(&*pairs, cid) {
+            return self.admit_pair(pairs, pair);
+        }
+        Arrival {
+            table: self,
+            answer: Checked::SourceWithoutPairs,
+        }
+    }
+
+    // An arrival: sweep, then rules 2 to 5. The pair carries the arriving sequence number and the reading.
+    pub fn check_seq_number(
+        self,
+        pairs: &mut [[u64; 4]; 1024],
+        sources: &mut [[u64; 2]; 1024],
+        limit: SourceLimit,
+        announce: bool,
+        pair: Pair,
+    ) -> Arrival
+        requires { ⌜ Kept self (now pairs) (now sources) ⌝ }
+        ensures { λ r. ⌜ Follows (r .table) (now (pairs .exit)) (now (sources .exit)) (r .answer) (check limit announce pair (tableOf self (now (pairs .entry)) (now (sources .entry)))) ⌝ }
+    {
+        let s = self.sweep(&mut *pairs, &mut *sources, announce, pair.reading);
+        let t = s.table;
+        let told = s.answer;
+        let SweepAnswer::TimedOut(cid, universe) = told else {
+            return t.admit(pairs, sources, limit, pair);
+        };
+        Arrival {
+            table: t,
+            answer: Checked::UniverseTimeout(cid, universe),
+        }
+    }
+}
+
+// The table of data packets: only a data sequence number enters it.
+pub struct DataTable {
+    pub table: PairTable,
+}
+
+pub struct DataSwept {
+    pub table: DataTable,
+    pub answer: SweepAnswer,
+}
+
+pub struct DataRemoval {
+    pub table: DataTable,
+    pub known: bool,
+}
+
+pub struct DataArrival {
+    pub table: DataTable,
+    pub answer: Checked,
+}
+
+impl DataTable {
+    pub fn new() -> DataTable
+        ensures { λ r. ⌜ Emptied (r .table) ⌝ }
+    {
+        let table = PairTable::new();
+        DataTable { table }
+    }
+
+    pub fn clear(self) -> DataTable
+        ensures { λ r. ⌜ Emptied (r .table) ⌝ }
+    {
+        let t = self.table;
+        let table = t.clear();
+        DataTable { table }
+    }
+
+    pub fn find(self, pairs: &[[u64; 4]; 1024], cid: Cid, universe: u16) -> Found
+        requires { ⌜ (self .table .count ≤ 1024) × (length (now pairs) ≡ 1024) ⌝ }
+        ensures { λ r. ⌜ r ≡ foundAt (key cid universe) (pairsOf (self .table .count) (now (pairs .entry))) ⌝ }
+    {
+        let t = self.table;
+        t.find(pairs, cid, universe)
+    }
+
+    pub fn sweep(
+        self,
+        pairs: &mut [[u64; 4]; 1024],
+        sources: &mut [[u64; 2]; 1024],
+        announce: bool,
+        reading: u64,
+    ) -> DataSwept
+        requires { ⌜ Kept (self .table) (now pairs) (now sources) ⌝ }
+        ensures { λ r. ⌜ Follows (r .table .table) (now (pairs .exit)) (now (sources .exit)) (r .answer) (answered (sweep announce reading (tableOf (self .table) (now (pairs .entry)) (now (sources .entry))))) ⌝ }
+    {
+        let t = self.table;
+        let r = t.sweep(pairs, sources, announce, reading);
+        let table = r.table;
+        let answer = r.answer;
+        DataSwept {
+            table: DataTable { table },
+            answer: answer,
+        }
+    }
+
+    pub fn remove(
+        self,
+        pairs: &mut [[u64; 4]; 1024],
+        sources: &mut [[u64; 2]; 1024],
+        cid: Cid,
+        universe: u16,
+    ) -> DataRemoval
+        requires { ⌜ Kept (self .table) (now pairs) (now sources) ⌝ }
+        ensures { λ r. ⌜ Follows (r .table .table) (now (pairs .exit)) (now (sources .exit)) (r .known) (removal (key cid universe) (tableOf (self .table) (now (pairs .entry)) (now (sources .entry)))) ⌝ }
+    {
+        let t = self.table;
+        let r = t.remove(pairs, sources, cid, universe);
+        let table = r.table;
+        DataRemoval {
+            table: DataTable { table },
+            known: r.known,
+        }
+    }
+
+    pub fn check_seq_number(
+        self,
+        pairs: &mut [[u64; 4]; 1024],
+        sources: &mut [[u64; 2]; 1024],
+        limit: SourceLimit,
+        announce: bool,
+        cid: Cid,
+        universe: u16,
+        sequence: DataSequence,
+        reading: u64,
+    ) -> DataArrival
+        requires { ⌜ Kept (self .table) (now pairs) (now sources) ⌝ }
+        ensures { λ r. ⌜ Follows (r .table .table) (now (pairs .exit)) (now (sources .exit)) (r .answer) (check limit announce (arriving cid universe (sequence .0) reading) (tableOf (self .table) (now (pairs .entry)) (now (sources .entry)))) ⌝ }
+    {
+        let t = self.table;
+        let number = sequence.0;
+        let pair = Pair {
+            cid: cid,
+            universe: universe,
+            sequence: number,
+            reading: reading,
+        };
+        let r = t.check_seq_number(pairs, sources, limit, announce, pair);
+        let table = r.table;
+        let answer = r.answer;
+        DataArrival {
+            table: DataTable { table },
+            answer: answer,
+        }
+    }
+}
+
+// The table of synchronisation packets: only a synchronisation sequence number enters it.
+pub struct SyncTable {
+    pub table: PairTable,
+}
+
+pub struct SyncSwept {
+    pub table: SyncTable,
+    pub answer: SweepAnswer,
+}
+
+pub struct SyncRemoval {
+    pub table: SyncTable,
+    pub known: bool,
+}
+
+pub struct SyncArrival {
+    pub table: SyncTable,
+    pub answer: Checked,
+}
+
+impl SyncTable {
+    pub fn new() -> SyncTable
+        ensures { λ r. ⌜ Emptied (r .table) ⌝ }
+    {
+        let table = PairTable::new();
+        SyncTable { table }
+    }
+
+    pub fn clear(self) -> SyncTable
+        ensures { λ r. ⌜ Emptied (r .table) ⌝ }
+    {
+        let t = self.table;
+        let table = t.clear();
+        SyncTable { table }
+    }
+
+    pub fn find(self, pairs: &[[u64; 4]; 1024], cid: Cid, universe: u16) -> Found
+        requires { ⌜ (self .table .count ≤ 1024) × (length (now pairs) ≡ 1024) ⌝ }
+        ensures { λ r. ⌜ r ≡ foundAt (key cid universe) (pairsOf (self .table .count) (now (pairs .entry))) ⌝ }
+    {
+        let t = self.table;
+        t.find(pairs, cid, universe)
+    }
+
+    pub fn sweep(
+        self,
+        pairs: &mut [[u64; 4]; 1024],
+        sources: &mut [[u64; 2]; 1024],
+        announce: bool,
+        reading: u64,
+    ) -> SyncSwept
+        requires { ⌜ Kept (self .table) (now pairs) (now sources) ⌝ }
+        ensures { λ r. ⌜ Follows (r .table .table) (now (pairs .exit)) (now (sources .exit)) (r .answer) (answered (sweep announce reading (tableOf (self .table) (now (pairs .entry)) (now (sources .entry))))) ⌝ }
+    {
+        let t = self.table;
+        let r = t.sweep(pairs, sources, announce, reading);
+        let table = r.table;
+        let answer = r.answer;
+        SyncSwept {
+            table: SyncTable { table },
+            answer: answer,
+        }
+    }
+
+    pub fn remove(
+        self,
+        pairs: &mut [[u64; 4]; 1024],
+        sources: &mut [[u64; 2]; 1024],
+        cid: Cid,
+        universe: u16,
+    ) -> SyncRemoval
+        requires { ⌜ Kept (self .table) (now pairs) (now sources) ⌝ }
+        ensures { λ r. ⌜ Follows (r .table .table) (now (pairs .exit)) (now (sources .exit)) (r .known) (removal (key cid universe) (tableOf (self .table) (now (pairs .entry)) (now (sources .entry)))) ⌝ }
+    {
+        let t = self.table;
+        let r = t.remove(pairs, sources, cid, universe);
+        let table = r.table;
+        SyncRemoval {
+            table: SyncTable { table },
+            known: r.known,
+        }
+    }
+
+    pub fn check_seq_number(
+        self,
+        pairs: &mut [[u64; 4]; 1024],
+        sources: &mut [[u64; 2]; 1024],
+        limit: SourceLimit,
+        announce: bool,
+        cid: Cid,
+        universe: u16,
+        sequence: SyncSequence,
+        reading: u64,
+    ) -> SyncArrival
+        requires { ⌜ Kept (self .table) (now pairs) (now sources) ⌝ }
+        ensures { λ r. ⌜ Follows (r .table .table) (now (pairs .exit)) (now (sources .exit)) (r .answer) (check limit announce (arriving cid universe (sequence .0) reading) (tableOf (self .table) (now (pairs .entry)) (now (sources .entry)))) ⌝ }
+    {
+        let t = self.table;
+        let number = sequence.0;
+        let pair = Pair {
+            cid: cid,
+            universe: universe,
+            sequence: number,
+            reading: reading,
+        };
+        let r = t.check_seq_number(pairs, sources, limit, announce, pair);
+        let table = r.table;
+        let answer = r.answer;
+        SyncArrival {
+            table: SyncTable { table },
+            answer: answer,
+        }
     }
 }

@@ -13,13 +13,15 @@ use crate::rows::move_source;
 use crate::rows::pair_of;
 use crate::search::skip_before;
 use rules::Cid;
+use rules::E131_NETWORK_DATA_LOSS_TIMEOUT;
+use rules::has_aged;
 use rules::is_expired;
 
 pub fn is_live(pair: Pair, reading: u64) -> bool
     ensures { λ r. ⌜ r ≡ live reading pair ⌝ }
 {
     let stored = pair.reading;
-    !is_expired(reading, stored)
+    !has_aged(E131_NETWORK_DATA_LOSS_TIMEOUT, reading, stored)
 }
 
 // Of the first n pairs those that are live; how many.

@@ -1,6 +1,6 @@
 -- The number against the limit, if there is one.
 -- Assumes nothing.
-use mathlib.Core.Path.{_≡_, refl, sym, ap, subst, _∙_}
+use mathlib.Core.Path.{sym, ap}
 use Rattle.settings.specs.declared.SourceLimit.{SourceLimit}
 use Rattle.pairs.specs.Table.{reached}
 use borrow.Author.Needs.{needs}

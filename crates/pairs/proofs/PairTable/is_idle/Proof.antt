@@ -1,6 +1,6 @@
 -- Both notes of the header.
 -- Assumes nothing.
-use mathlib.Core.Path.{_≡_, refl, sym, ap, subst, _∙_}
+use mathlib.Core.Path.{ap}
 use mathlib.Core.Bool.{not}
 use borrow.Author.Needs.{needs}
 use Rattle.pairs.proofs.PairTable.is_idle.Statement.{statement}

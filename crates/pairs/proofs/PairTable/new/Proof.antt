@@ -1,9 +1,8 @@
 -- No row is in use.
 -- Assumes nothing.
-use mathlib.Core.Path.{_≡_, refl, sym, ap, subst, _∙_}
+use mathlib.Core.Path.{refl}
 use Rattle.table.specs.Table.{any}
 use native.Mathlib.Omega.{arith}
-use Rattle.pairs.specs.Table.{Table}
 use Rattle.pairs.proofs.PairTable.new.Statement.{statement}
 use Rattle.pairs.proofs.PairTable.new.Tie as tie
 

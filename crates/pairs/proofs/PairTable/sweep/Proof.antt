@@ -1,6 +1,6 @@
 -- By the announcement one sweep or the other.
 -- Assumes nothing.
-use mathlib.Core.Path.{_≡_, refl, sym, ap, subst, _∙_}
+use mathlib.Core.Path.{sym, subst}
 use mathlib.Core.Bool.{Bool}
 use Rattle.pairs.specs.Table.{sweep}
 use Rattle.pairs.specs.View.{tableOf, answered, Follows}

@@ -1,6 +1,6 @@
 -- Nothing can be expired, nothing is noted, or the pair that is noted goes.
 -- Assumes nothing.
-use mathlib.Core.Path.{_≡_, refl, sym, ap, subst, _∙_}
+use mathlib.Core.Path.{sym, _∙_}
 use Rattle.pairs.specs.Calls.{announced-idle, announced-none, announced-some}
 use borrow.Author.Needs.{needs}
 use Rattle.pairs.proofs.PairTable.sweep_announced.Statement.{statement}

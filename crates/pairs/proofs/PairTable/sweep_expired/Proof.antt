@@ -1,8 +1,8 @@
 -- Where the header says that nothing can be expired and no CID be without a pair, a sweep does nothing; else both lists are gone through.
 -- Assumes nothing.
-use mathlib.Core.Path.{_≡_, refl, sym, ap, subst, _∙_}
+use mathlib.Core.Path.{sym, subst, _∙_}
 use mathlib.Core.List.{List}
-use Prim.Native.Nat.{ℕ, _≤_}
+use Prim.Native.Nat.{_≤_}
 use native.Mathlib.Omega.{arith}
 use Rattle.table.specs.Table.{Ascending, ascending-keep}
 use Rattle.pairs.specs.declared.Pair.{Pair}

@@ -1,7 +1,7 @@
 -- Universe and sequence number, put into one word, come out of it again: the one is below 65,536, the other below 256.
 -- Assumes nothing.
-use mathlib.Core.Path.{_≡_, refl, sym, ap, _∙_}
-use Prim.Native.Nat.{ℕ, _+_, _*_, _/_, _%_, _<_}
+use mathlib.Core.Path.{_≡_}
+use Prim.Native.Nat.{_+_, _*_, _/_, _%_}
 use native.Mathlib.Omega.{arith}
 use Rattle.pairs.specs.View.{cidOf, pairOf}
 use borrow.Author.Needs.{needs}

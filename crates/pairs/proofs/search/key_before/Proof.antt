@@ -1,6 +1,6 @@
 -- CID before CID, or the same CID and universe below universe.
 -- Assumes nothing.
-use mathlib.Core.Path.{_≡_, refl, sym, ap, _∙_}
+use mathlib.Core.Path.{sym, _∙_}
 use lib.Dec.{ltb}
 use Rattle.rules.specs.Cid.{before}
 use Rattle.pairs.specs.Table.{Key, key, keyOf}

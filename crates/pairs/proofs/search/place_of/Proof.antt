@@ -1,11 +1,11 @@
 -- A walk while the pair stands before the key. What is left of the walk, added to the place, stays the same.
 -- Assumes nothing.
-use mathlib.Core.Path.{_≡_, refl, sym, ap, _∙_}
-use mathlib.Core.Bool.{Bool, true, false}
+use mathlib.Core.Path.{_≡_, sym, ap, _∙_}
+use mathlib.Core.Bool.{Bool}
 use mathlib.Core.List.{List, []}
 use Prim.Native.Nat.{ℕ, _≤_, _-_, _+_}
 use native.Mathlib.Omega.{arith}
-use lib.ListN.{length, take, drop, getD}
+use lib.ListN.{take, drop, getD}
 use Rattle.table.specs.Arrays.{spent, prefix-goes, prefix-stays}
 use Rattle.table.specs.Place.{place, prefix, prefix-map}
 use Rattle.pairs.specs.declared.Pair.{Pair}

@@ -1,11 +1,10 @@
 -- A walk from place j while the CID of the pair is before this one.
 -- Assumes nothing.
 use mathlib.Core.Path.{_≡_, refl, sym, ap, _∙_}
-use mathlib.Core.Bool.{Bool, true, false}
-use mathlib.Core.List.{List, []}
-use Prim.Native.Nat.{ℕ, _≤_, _-_, _+_}
+use mathlib.Core.List.{[]}
+use Prim.Native.Nat.{_≤_, _-_, _+_}
 use native.Mathlib.Omega.{arith}
-use lib.ListN.{length, take, drop, getD}
+use lib.ListN.{take, drop, getD}
 use Rattle.table.specs.Arrays.{spent, prefix-goes, prefix-stays}
 use Rattle.table.specs.Place.{prefix}
 use Rattle.pairs.specs.declared.Pair.{Pair}

@@ -1,7 +1,7 @@
 -- The same CID, and expired.
 -- Assumes nothing.
-use mathlib.Core.Path.{_≡_, refl, sym, ap, _∙_}
-use mathlib.Core.Bool.{Bool, true, false, not}
+use mathlib.Core.Path.{_≡_, sym, _∙_}
+use mathlib.Core.Bool.{true, false}
 use Rattle.rules.specs.Cid.{same}
 use borrow.Author.Needs.{needs}
 use Rattle.pairs.proofs.sweep.is_lapsed.Statement.{statement}

@@ -1,16 +1,16 @@
 -- Live is not expired.
 -- Assumes nothing.
-use mathlib.Core.Path.{_≡_, refl, sym, ap, _∙_}
-use mathlib.Core.Bool.{Bool, true, false, not}
+use mathlib.Core.Path.{ap}
+use mathlib.Core.Bool.{not}
 use borrow.Author.Needs.{needs}
 use Rattle.pairs.proofs.sweep.is_live.Statement.{statement}
 use Rattle.pairs.proofs.sweep.is_live.Tie as tie
 
-is-expired-requires : tie.Need-is-expired-requires
-is-expired-requires c κs = search needs
+has-aged-requires : tie.Need-has-aged-requires
+has-aged-requires c κs = search needs
 
 returns : tie.Need-returns
-returns c = ap not (c .is-expired .ensures)
+returns c = ap not (c .has-aged .ensures)
 
 pub is-live-spec : {M : Type 1} → statement M
-is-live-spec = tie.close (tie.spec is-expired-requires returns)
+is-live-spec = tie.close (tie.spec has-aged-requires returns)

@@ -1,15 +1,14 @@
 -- One walk along both ascending lists: pairs whose CID is before the one looked at are passed, and the first that is left decides.
 -- Assumes nothing.
-use mathlib.Core.Path.{_≡_, refl, sym, ap, _∙_}
-use mathlib.Core.Bool.{Bool, true, false, not}
-use mathlib.Core.List.{List, []}
-use Prim.Native.Nat.{ℕ, _≤_, _<_, _-_, _+_}
+use mathlib.Core.Path.{_≡_, sym, ap, _∙_}
+use mathlib.Core.List.{[]}
+use Prim.Native.Nat.{_≤_, _<_, _-_, _+_}
 use native.Mathlib.Omega.{arith}
 use lib.ListN.{length, take, drop, getD, length-set}
 use Rattle.table.specs.Arrays.{spent}
 use Rattle.table.specs.Place.{prefix}
 use Rattle.rules.specs.declared.Cid.{Cid}
-use Rattle.pairs.specs.View.{Rows, cidOf, row-before, starts}
+use Rattle.pairs.specs.View.{cidOf, row-before, starts}
 use Rattle.pairs.specs.Sweep.{Walk, owner, walk-starts, walk-skip, walk-has, walk-drop, walk-keep, walk-done}
 use borrow.Author.Needs.{needs}
 use Rattle.pairs.proofs.sweep.keep_sources.Statement.{statement}

@@ -1,14 +1,13 @@
 -- From the last source back to the first that notes something: those after it note nothing.
 -- Assumes nothing.
-use mathlib.Core.Path.{_≡_, refl, sym, ap, _∙_}
+use mathlib.Core.Path.{_≡_, sym, ap, _∙_}
 use mathlib.Core.Option.{none}
-use mathlib.Core.List.{List, [], map}
-use Prim.Native.Nat.{ℕ, _≤_, _<_, _-_, _+_}
+use mathlib.Core.List.{[], map}
+use Prim.Native.Nat.{ℕ, _≤_, _-_, _+_}
 use native.Mathlib.Omega.{arith}
-use lib.ListN.{length, take, drop, getD}
+use lib.ListN.{take, drop, getD}
 use Rattle.table.specs.Arrays.{spent}
 use Rattle.rules.specs.declared.Cid.{Cid}
-use Rattle.pairs.specs.declared.SweepAnswer.the-variants.{Quiet, TimedOut}
 use Rattle.pairs.specs.Table.{lowest, last-noted}
 use Rattle.pairs.specs.View.{Rows, cidOf, pairsOf, noteOf}
 use Rattle.pairs.specs.Sweep.{noted-on, noted-hit, note-none}

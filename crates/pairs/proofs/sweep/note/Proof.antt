@@ -1,6 +1,6 @@
 -- The first source decides whether there is a note; the last that has one gives it.
 -- Assumes nothing.
-use mathlib.Core.Path.{_≡_, refl, sym, ap, subst, _∙_}
+use mathlib.Core.Path.{_≡_, sym, ap, _∙_}
 use mathlib.Core.Option.{Option}
 use mathlib.Core.List.{[]}
 use Rattle.pairs.specs.declared.Pair.{Pair}

@@ -1,14 +1,12 @@
 -- The pair at place j, if the place is in use.
 -- Assumes nothing.
-use mathlib.Core.Path.{_≡_, refl, sym, ap, _∙_}
-use mathlib.Core.Bool.{Bool, true, false, not}
+use mathlib.Core.Path.{sym, ap, _∙_}
 use native.Mathlib.Omega.{arith}
-use mathlib.Core.List.{List, []}
-use Prim.Native.Nat.{ℕ}
+use mathlib.Core.List.{[]}
 use Rattle.table.specs.Arrays.{next, spent}
 use Rattle.rules.specs.Cid.{same}
 use Rattle.pairs.specs.declared.Pair.{Pair}
-use Rattle.pairs.specs.View.{Rows, pairOf, starts}
+use Rattle.pairs.specs.View.{starts}
 use borrow.Author.Needs.{needs}
 use Rattle.pairs.proofs.sweep.starts_with.Statement.{statement}
 use Rattle.pairs.proofs.sweep.starts_with.Tie as tie
