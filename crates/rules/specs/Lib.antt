@@ -3,5 +3,4 @@ pub mod Sequence
 pub mod Age
 pub mod Bytes
 pub mod Cid
-pub mod Trials
 pub mod Answer

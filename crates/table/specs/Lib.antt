@@ -3,3 +3,5 @@ pub mod Order
 pub mod Table
 pub mod Place
 pub mod Arrays
+pub mod Parts
+pub mod Gap

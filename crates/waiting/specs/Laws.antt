@@ -30,7 +30,7 @@ use Rattle.waiting.specs.Waiting.{universeOf, addressOf, waitingFor, cap
 use Rattle.waiting.specs.Records.{bit, owner, encode, records, most-bytes}
 
 -- ── in order and within the counts ──
-within-keep : (t : Dmx → Bool) (ds : List Dmx) → Within ds → Within (keep t ds)
+pub within-keep : (t : Dmx → Bool) (ds : List Dmx) → Within ds → Within (keep t ds)
 unfolding keep
 within-keep t [] w = tt
 within-keep t (d ∷ ds) w = split (t d) (λ h. rw h (w .0, within-keep t ds (w .1))) (λ h. rw h (within-keep t ds (w .1)))
@@ -180,8 +180,11 @@ value-count-within [] w = omega arith
 value-count-within (d ∷ ds) w = omega (arith, value-count-within ds (w .1), w .0)
 
 -- the output of 35,072 bytes is enough
+pub records-within : (ds : List Dmx) → length ds ≤ capacity → Within ds → length (records ds) ≤ most-bytes
+records-within ds f w = omega (arith, length-records ds, value-count-within ds w)
+
 pub records-fit : (ds : List Dmx) → Ordered ds → length (records ds) ≤ most-bytes
-records-fit ds o = let f = o .fit in omega (arith, length-records ds, value-count-within ds (o .values-fit))
+records-fit ds o = records-within ds (o .fit) (o .values-fit)
 
 -- "in a step a release meets no expired data": after a sweep at its reading it drops none
 pub released-swept : (now a : ℕ) (ds : List Dmx) → released now a (swept now ds) ≡ keep (of-address a) (swept now ds)

@@ -2,14 +2,17 @@
 -- Assumes nothing.
 use mathlib.Core.Path.{_≡_, refl}
 use mathlib.Core.Bool.{Bool, true, false, not, _&&_}
+use mathlib.Core.Option.{Option, none, some}
 use mathlib.Core.List.{List, [], _∷_}
 use Prim.Native.Nat.{ℕ}
 use lib.Dec.{eqb}
 use lib.IntN.{ℤ, pos, negℤ}
 use lib.Signed.{leZ}
 use Rattle.rules.specs.Universe.{legal}
 use Rattle.rules.specs.Sequence.{difference, refused}
 use Rattle.rules.specs.Age.{expired}
+use Rattle.merge.specs.declared.SourceCid.the-variants.{Of}
+use Rattle.merge.specs.Merge.{Dmx, htp-merge, mergeable, same-start, joined, blended, highest}
 
 -- what a row of the table says
 pub data Trial : Type 0 where
@@ -22,10 +25,37 @@ pub data Trial : Type 0 where
   -- a universe: legal or illegal
   legal-universe : ℕ → Trial
   illegal-universe : ℕ → Trial
+  -- merging by highest value: the older's priority and values, the newer's, and the values merged
+  merges : ℕ → List ℕ → ℕ → List ℕ → List ℕ → Trial
 
 -- the same integer
 unfoldable pub equalZ : ℤ → ℤ → Bool
 equalZ a b = leZ a b && leZ b a
+
+-- the same values
+unfoldable pub equal-values : List ℕ → List ℕ → Bool
+equal-values [] [] = true
+equal-values [] (y ∷ ys) = false
+equal-values (x ∷ xs) [] = false
+equal-values (x ∷ xs) (y ∷ ys) = eqb x y && equal-values xs ys
+
+-- data of one universe and address, at this priority
+abbrev pub data-of : ℕ → ℕ → List ℕ → Dmx
+data-of source priority values = record {
+  head = record {
+    universe = 1;
+    «sync_uni» = 0;
+    priority = priority;
+    «src_cid» = Of (record { hi = source; lo = 0 });
+    preview = false;
+    «recv_timestamp» = 0;
+  };
+  values = values;
+}
+
+unfoldable pub merged-values : Option Dmx → List ℕ → Bool
+merged-values none values = false
+merged-values (some d) values = equal-values (d .values) values
 
 unfoldable pub holds : Trial → Bool
 holds (accepts last arriving d) = equalZ (difference arriving last) d && not (refused d)
@@ -34,6 +64,7 @@ holds (live a) = not (expired a 0)
 holds (lapsed a) = expired a 0
 holds (legal-universe u) = legal u
 holds (illegal-universe u) = not (legal u)
+holds (merges p xs q ys values) = merged-values (htp-merge (data-of 1 p xs) (data-of 2 q ys)) values
 
 unfoldable pub all : List Trial → Bool
 all [] = true
@@ -59,8 +90,10 @@ trials =
     ∷ legal-universe 64214
     ∷ illegal-universe 0
     ∷ illegal-universe 64000
+    ∷ merges 100 (0 ∷ 10 ∷ 200 ∷ []) 100 (0 ∷ 50 ∷ []) (0 ∷ 50 ∷ 200 ∷ [])
+    ∷ merges 100 (0 ∷ 10 ∷ 200 ∷ []) 101 (0 ∷ 50 ∷ []) (0 ∷ 50 ∷ [])
     ∷ []
 
 pub trial-values : all trials ≡ true
-unfolding equalZ holds all trials
+unfolding equalZ equal-values merged-values htp-merge mergeable same-start joined blended highest holds all trials
 trial-values = refl

@@ -1,0 +1,39 @@
+-- The tests are the definition's, in its order.
+-- Assumes nothing.
+use Rattle.merge.specs.Merge.{Dmx}
+use Rattle.merge.specs.Views.{dmx}
+use Rattle.merge.specs.Returns.{long-older, long-newer, long-neither, choice-long, choice-older, choice-newer}
+use mathlib.Core.Path.{_≡_, sym, ap, _∙_}
+use lib.ListN.{length}
+use borrow.Author.Tests.{lt-ltb, le-ltb}
+use Rattle.merge.specs.Merge.{choice, too-long}
+use Rattle.merge.proofs.discard_lowest_priority_then_previous.Statement.{statement}
+use Rattle.merge.proofs.discard_lowest_priority_then_previous.Tie as tie
+
+abbrev older : tie.Start → Dmx
+older c = dmx (c .args .older) (c .args .older-values .now)
+
+abbrev newer : tie.Start → Dmx
+newer c = dmx (c .args .newer) (c .args .newer-values .now)
+
+returns : tie.Need-returns
+returns c = let s = c .before in choice-long (older s) (newer s) (long-older (older s) (newer s) (c .if1 .taken))
+
+returns-2 : tie.Need-returns-2
+returns-2 c = let s = c .before .before in choice-long (older s) (newer s) (long-newer (older s) (newer s) (c .before .if1 .left) (c .if2 .taken))
+
+returns-3 : tie.Need-returns-3
+returns-3 c =
+    let b = c .before .before .before in
+    let s = b .before .before in
+    choice-older (older s) (newer s) (long-neither (older s) (newer s) (b .before .if1 .left) (b .if2 .left)) (c .if3 .taken)
+
+returns-4 : tie.Need-returns-4
+returns-4 c =
+    let b = c .before .before .before in
+    let s = b .before .before in
+    choice-newer (older s) (newer s) (long-neither (older s) (newer s) (b .before .if1 .left) (b .if2 .left)) (c .if3 .left)
+
+pub discard-lowest-priority-then-previous-spec : {M : Type 1} → statement M
+discard-lowest-priority-then-previous-spec =
+    tie.close (tie.spec returns returns-2 returns-3 returns-4)

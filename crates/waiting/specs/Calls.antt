@@ -1,0 +1,218 @@
+-- What each call shows: the waiting data that it makes, in order and within its count, and the memory that it keeps.
+-- Assumes nothing.
+use mathlib.Core.Path.{_≡_, refl, sym, ap, _∙_, subst}
+use mathlib.Core.Logic.{_≢_}
+use mathlib.Core.Bool.{Bool, true, false, not, cond}
+use mathlib.Core.Option.{Option, none, some}
+use mathlib.Core.List.{List, [], _∷_, _++_}
+use Prim.Native.Nat.{ℕ, zero, suc, _+_, _-_, _*_, _≤_, _<_}
+use native.Mathlib.Omega.{arith}
+use native.Mathlib.Numerals.{add-one}
+use lib.Dec.{ltb, leb, eqb}
+use lib.ListN.{length, take, drop, getD, set, length-take}
+use lib.Seq.{getD-take}
+use borrow.Author.Tests.{le-leb, lt-leb, ltb-true, ltb-false}
+use Rattle.table.specs.Cases.{split, clash}
+use Rattle.table.specs.Order.{ℕ-order}
+use Rattle.table.specs.Table.{keep, any, store as put, remove, Ascending, keep-all, remove-absent}
+use Rattle.table.specs.Place.{prefix, prefix-le, place, insertAt, removeAt, absent-end, absent, present, store-insert, store-replace, remove-place}
+use Rattle.table.specs.Arrays.{replace}
+use Rattle.settings.specs.declared.MergeChoice.{MergeChoice}
+use Rattle.merge.specs.declared.DmxData.{DmxData}
+use Rattle.merge.specs.Merge.{Dmx}
+use Rattle.rules.specs.Age.{expired}
+use Rattle.merge.specs.Views.{dmx}
+use Rattle.waiting.specs.declared.StoreAnswer.{StoreAnswer}
+use Rattle.waiting.specs.declared.StoreAnswer.the-variants.{Stored, MergeRefused, WaitingFull}
+use Rattle.waiting.specs.declared.Found.{Found}
+use Rattle.waiting.specs.declared.Found.the-variants.{At, Before}
+use Rattle.waiting.specs.Waiting.{universeOf, waitingFor, capacity, merged, stored, cleared, held, fresh, swept, left, of-address, Ordered}
+use Rattle.waiting.specs.Laws.{ordered-stored, ordered-cleared, ordered-swept, ordered-left, stored-merged, stored-refused, stored-full, stored-new, merged-universe}
+use Rattle.waiting.specs.Entries.{headOf, countOf, entries, nothing, waitingOf, Room, Kept, Lent, lent-none, lent-then, lent-room, kept-ordered, length-waiting, length-entries, prefix-entries, any-entries}
+use Rattle.waiting.specs.Posts.{Changed, Held, Joined, joinedAt, below, Sought}
+use Rattle.waiting.specs.Passes.{head-at}
+use Rattle.waiting.specs.Joins.{read-entry}
+
+-- what every call yields: the waiting data ds, ready for the next call, in memory that is else unchanged
+pub record Yields (rows : List (List ℕ)) (store : List ℕ) (rows′ : List (List ℕ)) (store′ : List ℕ) (n : ℕ) (ds : List Dmx) : Type 0 where
+  pub kept : Kept n rows′ store′
+  pub lent : Lent rows store rows′ store′
+  pub view : waitingOf n rows′ store′ ≡ ds
+
+-- `store_waiting_data` with the answer
+pub record StoredCall (n : ℕ) (rows : List (List ℕ)) (store : List ℕ) (choice : MergeChoice) (p : Dmx) (rows′ : List (List ℕ)) (store′ : List ℕ) (m : ℕ) (a : StoreAnswer) : Type 0 where
+  pub yields : Yields rows store rows′ store′ m (stored choice p (waitingOf n rows store) .0)
+  pub answers : a ≡ stored choice p (waitingOf n rows store) .1
+
+-- `check_waiting_data_timeouts`; where nothing is expired, nothing is written
+pub record SweptCall (n : ℕ) (rows : List (List ℕ)) (store : List ℕ) (now : ℕ) (rows′ : List (List ℕ)) (store′ : List ℕ) (m : ℕ) : Type 0 where
+  pub yields : Yields rows store rows′ store′ m (swept now (waitingOf n rows store))
+  pub quiet : any (λ (d : Dmx). not (fresh now d)) (waitingOf n rows store) ≡ false → (rows′ ≡ rows) × (store′ ≡ store)
+
+-- no data at all, whatever the memory holds
+abbrev pub Empty : ℕ → Type 0
+Empty n = (rows : List (List ℕ)) (store : List ℕ) → Room rows store → Kept n rows store × (waitingOf n rows store ≡ [])
+
+pub empty-zero : Empty 0
+empty-zero rows store r = (record { room = r; count-fits = omega arith; ascends = tt }, refl)
+
+yield : (n m : ℕ) (rows rows′ : List (List ℕ)) (store store′ : List ℕ) (ds : List Dmx) → Kept n rows store → Lent rows store rows′ store′ → m ≤ 64
+    → waitingOf m rows′ store′ ≡ ds → Ascending ltb universeOf ds → Yields rows store rows′ store′ m ds
+yield n m rows rows′ store store′ ds k l f v a = record {
+  kept = record { room = lent-room (k .room) l; count-fits = f; ascends = rw v a };
+  lent = l;
+  view = v;
+}
+
+-- nothing changes
+pub unchanged : (n : ℕ) (rows : List (List ℕ)) (store : List ℕ) (ds : List Dmx) → Kept n rows store → waitingOf n rows store ≡ ds → Yields rows store rows store n ds
+unchanged n rows store ds k v = record { kept = k; lent = lent-none rows store; view = v }
+
+module _ (n : ℕ) (rows : List (List ℕ)) (store : List ℕ) (k : Kept n rows store) where
+  -- what waits
+  abbrev ds : List Dmx
+  ds = waitingOf n rows store
+
+  -- ── a universe sought ──
+  module _ (u i : ℕ) where
+    placed : i ≡ prefix (λ row. below u (headOf row)) (take n rows) → place ltb universeOf u ds ≡ i
+    placed e = sym (e ∙ prefix-entries (below u) n rows store)
+
+    row-at : i < n → getD ds i nothing .head ≡ headOf (getD rows i [])
+    row-at h =
+        let a = k .room .rows-length in
+        let b = k .count-fits in
+        ap (λ (d : Dmx). d .head) (getD-take n (entries rows store) i nothing h) ∙ head-at rows store i (omega arith)
+
+    pub found-at : Sought u n rows (At i) → waitingFor u ds ≡ some (getD (entries rows store) i nothing)
+    found-at s =
+        let p = placed (s .0) in
+        let h = s .1 in
+        let l = length-waiting k in
+        let e : universeOf (getD ds (place ltb universeOf u ds) nothing) ≡ u = rw p (ap (λ (d : DmxData). d .universe) (row-at h) ∙ s .2) in
+        present ltb universeOf ℕ-order u ds nothing (omega arith) e ∙ ap some (rw p (getD-take n (entries rows store) i nothing h))
+
+    pub found-none : Sought u n rows (Before i) → waitingFor u ds ≡ none
+    found-none s =
+        let p = placed (s .0) in
+        let l = length-waiting k in
+        split (ltb i n)
+        (λ f.
+        let h = ltb-true i n f in
+        absent ltb universeOf ℕ-order u ds nothing (omega arith) (λ e. s .1 h (sym (ap (λ (d : DmxData). d .universe) (row-at h)) ∙ ap (λ (j : ℕ). universeOf (getD ds j nothing)) (sym p) ∙ e)))
+        (λ f. let h = ltb-false i n f in absent-end ltb universeOf ℕ-order u ds (omega arith))
+
+    taken : Sought u n rows (At i) → remove ltb universeOf u ds ≡ removeAt i ds
+    taken s = remove-place ltb universeOf ℕ-order u ds (getD (entries rows store) i nothing) (found-at s) ∙ ap (λ (j : ℕ). removeAt j ds) (placed (s .0))
+
+    -- ── `clear_waiting_data` ──
+    pub clears : (rows′ : List (List ℕ)) (store′ : List ℕ) → Sought u n rows (At i) → Held rows store rows′ store′ (n - 1) (removeAt i (take n (entries rows store)))
+        → Yields rows store rows′ store′ (n - 1) (cleared u ds .0) × (true ≡ cleared u ds .1)
+    unfolding cleared
+    clears rows′ store′ s c =
+        let b = k .count-fits in
+        (yield n (n - 1) rows rows′ store store′ (remove ltb universeOf u ds) k (c .lends) (omega arith) (c .holds ∙ sym (taken s)) (unfold cleared in ordered-cleared u ds (kept-ordered k) .ascends), ap held (sym (found-at s)))
+
+    pub clears-none : Sought u n rows (Before i) → Yields rows store rows store n (cleared u ds .0) × (false ≡ cleared u ds .1)
+    unfolding cleared
+    clears-none s =
+        (unchanged n rows store (remove ltb universeOf u ds) k (sym (remove-absent ltb universeOf ℕ-order u ds (found-none s))), ap held (sym (found-none s)))
+
+  -- ── `store_waiting_data` ──
+  module _ (choice : MergeChoice) (p : Dmx) (i : ℕ) (f : length (p .values) ≤ 513) where
+    making : (rows′ : List (List ℕ)) (store′ : List ℕ) (m : ℕ) (a : StoreAnswer) (es : List Dmx) → stored choice p ds ≡ (es, a) → Lent rows store rows′ store′ → m ≤ 64
+        → waitingOf m rows′ store′ ≡ es → StoredCall n rows store choice p rows′ store′ m a
+    making rows′ store′ m a es e l h v =
+        let o = ordered-stored choice p ds (kept-ordered k) f in
+        let q : stored choice p ds .0 ≡ es = ap (λ (x : List Dmx × StoreAnswer). x .0) e in
+        record {
+          yields = yield n m rows rows′ store store′ (stored choice p ds .0) k l h (v ∙ sym q) (o .ascends);
+          answers = sym (ap (λ (x : List Dmx × StoreAnswer). x .1) e);
+        }
+
+    pub stores-full : Sought (universeOf p) n rows (Before i) → 64 ≤ n → StoredCall n rows store choice p rows store n WaitingFull
+    stores-full s h =
+        let l = length-waiting k in
+        making rows store n WaitingFull ds (stored-full choice p ds (found-none (universeOf p) i s) (le-leb capacity (length ds) (omega arith))) (lent-none rows store) (k .count-fits) refl
+
+    pub stores-new : (rows′ : List (List ℕ)) (store′ : List ℕ) → Sought (universeOf p) n rows (Before i) → n < 64
+        → Held rows store rows′ store′ (n + 1) (insertAt i p (take n (entries rows store))) → StoredCall n rows store choice p rows′ store′ (n + 1) Stored
+    stores-new rows′ store′ s h c =
+        let l = length-waiting k in
+        let e = store-insert ltb universeOf ℕ-order (universeOf p) ds p refl (found-none (universeOf p) i s) ∙ ap (λ (j : ℕ). insertAt j p ds) (placed (universeOf p) i (s .0)) in
+        making rows′ store′ (n + 1) Stored (put ltb universeOf p ds) (stored-new choice p ds (found-none (universeOf p) i s) (lt-leb capacity (length ds) (omega arith))) (c .lends) (omega arith) (c .holds ∙ sym e)
+
+    -- the merge of the entry found
+    module _ (s : Sought (universeOf p) n rows (At i)) where
+      abbrev waits : Dmx
+      waits = getD (entries rows store) i nothing
+
+      pub stores-merged : (rows′ : List (List ℕ)) (store′ : List ℕ) → Joined rows store rows′ store′ i (merged choice waits p) true → StoredCall n rows store choice p rows′ store′ n Stored
+      stores-merged rows′ store′ j = go (merged choice waits p) refl j
+        where
+          go : (o : Option Dmx) → merged choice waits p ≡ o → Joined rows store rows′ store′ i o true → StoredCall n rows store choice p rows′ store′ n Stored
+          go none m j = let z : true ≡ false = j .joins in let y : _≡_ {A = ℕ} 0 1 = cc in absurd (omega arith)
+          go (some d) m j =
+              let w = found-at (universeOf p) i s in
+              let u = merged-universe choice waits p d (ap (λ (h : DmxData). h .universe) (sym (ap (λ (x : Dmx). x .head) (getD-take n (entries rows store) i nothing (s .1))) ∙ row-at (universeOf p) i (s .1)) ∙ s .2) m in
+              let e = store-replace ltb universeOf ℕ-order (universeOf p) ds d waits u w ∙ ap (λ (q : ℕ). set ds q d) (placed (universeOf p) i (s .0)) in
+              making rows′ store′ n Stored (put ltb universeOf d ds) (stored-merged choice p ds waits d w m) (j .changed .lent) (k .count-fits)
+              (ap (take n) (j .changed .becomes) ∙ replace (entries rows store) n i d ∙ sym e)
+
+      -- refused: the entry is taken out of what the merge left as it was
+      pub stores-refused : (rows₁ rows′ : List (List ℕ)) (store₁ store′ : List ℕ) → Joined rows store rows₁ store₁ i (merged choice waits p) false
+          → Held rows₁ store₁ rows′ store′ (n - 1) (removeAt i (take n (entries rows₁ store₁))) → StoredCall n rows store choice p rows′ store′ (n - 1) MergeRefused
+      stores-refused rows₁ rows′ store₁ store′ j c = go (merged choice waits p) refl j
+        where
+          go : (o : Option Dmx) → merged choice waits p ≡ o → Joined rows store rows₁ store₁ i o false → StoredCall n rows store choice p rows′ store′ (n - 1) MergeRefused
+          go (some d) m j = let z : false ≡ true = j .joins in let y : _≡_ {A = ℕ} 0 1 = cc in absurd (omega arith)
+          go none m j =
+              let b = k .count-fits in
+              making rows′ store′ (n - 1) MergeRefused (remove ltb universeOf (universeOf p) ds) (stored-refused choice p ds waits (found-at (universeOf p) i s) m) (lent-then (j .changed .lent) (c .lends)) (omega arith)
+              (c .holds ∙ ap (λ (x : List Dmx). removeAt i (take n x)) (j .changed .becomes) ∙ sym (taken (universeOf p) i s))
+
+  -- ── `check_waiting_data_timeouts` ──
+  pub sweeps : (now : ℕ) (rows′ : List (List ℕ)) (store′ : List ℕ) (m : ℕ) → any (λ row. not (not (expired now (headOf row .«recv_timestamp»)))) (take n rows) ≡ true → m ≤ n
+      → Held rows store rows′ store′ m (keep (fresh now) (take n (entries rows store))) → SweptCall n rows store now rows′ store′ m
+  sweeps now rows′ store′ m e h c =
+      let b = k .count-fits in
+      record {
+        yields = yield n m rows rows′ store store′ (swept now ds) k (c .lends) (omega arith) (c .holds) (ordered-swept now ds (kept-ordered k) .ascends);
+        quiet = λ q. clash (sym (any-entries (λ (d : DmxData). not (not (expired now (d .«recv_timestamp»)))) n rows store) ∙ e) q;
+      }
+
+  pub sweeps-none : (now : ℕ) → any (λ row. not (not (expired now (headOf row .«recv_timestamp»)))) (take n rows) ≡ false → SweptCall n rows store now rows store n
+  sweeps-none now e =
+      let q = sym (any-entries (λ (d : DmxData). not (not (expired now (d .«recv_timestamp»)))) n rows store) ∙ e in
+      record {
+        yields = unchanged n rows store (swept now ds) k (sym (keep-all (fresh now) (λ d. not (fresh now d)) ds (λ d h. back (fresh now d) h) q));
+        quiet = λ z. (refl, refl);
+      }
+    where
+      back : (b : Bool) → not b ≡ false → b ≡ true
+      back true h = refl
+      back false h = cc
+
+  -- ── `rtrv_waiting_data`: what is left ──
+  pub leaves : (a : ℕ) (rows′ : List (List ℕ)) (store′ : List ℕ) (m : ℕ) → m ≤ n
+      → Held rows store rows′ store′ m (keep (λ (d : Dmx). not (of-address a d)) (take n (entries rows store))) → Yields rows store rows′ store′ m (left a ds)
+  unfolding left
+  leaves a rows′ store′ m h c =
+      let b = k .count-fits in
+      yield n m rows rows′ store store′ (keep (λ (d : Dmx). not (of-address a d)) ds) k (c .lends) (omega arith) (c .holds) (unfold left in ordered-left a ds (kept-ordered k) .ascends)
+
+-- a place to insert at is within the count
+pub before-within : (u n i : ℕ) (rows : List (List ℕ)) → Sought u n rows (Before i) → i ≤ n
+before-within u n i rows s = omega (arith, s .0, prefix-le (λ row. below u (headOf row)) (take n rows), length-take n rows)
+
+-- ── the read-outs ──
+pub data-at : (n i : ℕ) (rows : List (List ℕ)) (store : List ℕ) (d : DmxData) → i < n → n ≤ 64 → length rows ≡ 64 → d ≡ headOf (getD rows i [])
+    → d ≡ getD (waitingOf n rows store) i nothing .head
+data-at n i rows store d h b l e =
+    e ∙ sym (ap (λ (x : Dmx). x .head) (getD-take n (entries rows store) i nothing h) ∙ head-at rows store i (omega arith))
+
+pub values-at : (n i m : ℕ) (rows : List (List ℕ)) (store : List ℕ) → Kept n rows store → i < n → m ≡ countOf (getD rows i [])
+    → take (i * 513 + m - i * 513) (drop (i * 513) store) ≡ getD (waitingOf n rows store) i nothing .values
+values-at n i m rows store k h e =
+    let b = k .count-fits in
+    ap (λ (x : Dmx). x .values) (read-entry rows store i (k .room) (omega arith) (headOf (getD rows i [])) m refl e ∙ sym (getD-take n (entries rows store) i nothing h))
