@@ -1,0 +1,94 @@
+-- One law for each return of the calls: what the tables' own calls ensure makes the pair of tables that the definition says.
+-- Assumes nothing.
+use mathlib.Core.Path.{_≡_, refl, sym, ap, _∙_, subst}
+use mathlib.Core.Bool.{Bool, true, false, not}
+use mathlib.Core.Option.{Option, none, some}
+use Prim.Native.Nat.{ℕ}
+use native.Mathlib.Omega.{arith}
+use Rattle.table.specs.Cases.{split, found, clash}
+use Rattle.rules.specs.declared.Cid.{Cid}
+use Rattle.pairs.specs.declared.Pair.{Pair}
+use Rattle.pairs.specs.declared.SweepAnswer.{SweepAnswer}
+use Rattle.pairs.specs.declared.DataTable.{DataTable}
+use Rattle.pairs.specs.declared.SyncTable.{SyncTable}
+use Rattle.pairs.specs.declared.SweepAnswer.the-variants.{Quiet, TimedOut}
+use Rattle.pairs.specs.Table.{Table, Key, key, pairAt, sweep, without, unknown}
+use Rattle.pairs.specs.View as pairs
+use Rattle.pairs.specs.View.{Rows, tableOf, answerOf, removal}
+use Rattle.sequences.specs.declared.SequenceNumbering.{SequenceNumbering}
+use Rattle.sequences.specs.Sequences.{Numbers, numbers, timeouts, timeouts-data, timeouts-sync, removed}
+use Rattle.sequences.specs.View.{Lent, lent, dataOf, syncOf, numbersOf, Kept, Follows, answered}
+
+-- ── the definition, by what the first sweep gave ──
+answer-some : (o : Option Key) (c : Cid) (u : ℕ) → TimedOut c u ≡ answerOf o → o ≡ some (key c u)
+answer-some none c u e = let z : _≡_ {A = ℕ} 0 1 = cc in absurd (omega arith)
+answer-some (some k) c u e = ap {B = Option Key} some (λ i. record { cid = p i; universe = q i })
+  where
+    p : k .cid ≡ c
+    p = cc
+
+    q : k .universe ≡ u
+    q = cc
+
+answer-none : (o : Option Key) → Quiet ≡ answerOf o → o ≡ none
+answer-none none e = refl
+answer-none (some k) e = let z : _≡_ {A = ℕ} 0 1 = cc in absurd (omega arith)
+
+timeouts-told : (announce : Bool) (now : ℕ) (n : Numbers) (k : Key) → sweep announce now (n .data-table) .1 ≡ some k
+    → timeouts announce now n ≡ (numbers (sweep announce now (n .data-table) .0) (n .sync-table), some k)
+unfolding timeouts timeouts-data
+timeouts-told announce now n k e = ap (timeouts-data announce now (n .sync-table)) (λ i. (sweep announce now (n .data-table) .0, e i))
+
+timeouts-on : (announce : Bool) (now : ℕ) (n : Numbers) → sweep announce now (n .data-table) .1 ≡ none
+    → timeouts announce now n ≡ (numbers (sweep announce now (n .data-table) .0) (sweep announce now (n .sync-table) .0), sweep announce now (n .sync-table) .1)
+unfolding timeouts timeouts-data timeouts-sync
+timeouts-on announce now n e = ap (timeouts-data announce now (n .sync-table)) (λ i. (sweep announce now (n .data-table) .0, e i))
+
+-- ── the calls ──
+module _ (n : SequenceNumbering) (m : Lent) (k : Kept n m) (announce : Bool) (now : ℕ) (d : DataTable) (dp ds : Rows) where
+  -- the data table gave number 4
+  pub checks-data : (c : Cid) (u : ℕ) (a : SweepAnswer) → pairs.Follows (d .table) dp ds a (pairs.answered (sweep announce now (dataOf n m))) → a ≡ TimedOut c u
+      → Follows (record { «data» = d; sync = n .sync }) (lent dp ds (m .sync-pairs) (m .sync-sources)) (TimedOut c u) (answered (timeouts announce now (numbersOf n m)))
+  checks-data c u a f e =
+      let t = timeouts-told announce now (numbersOf n m) (key c u) (answer-some (sweep announce now (dataOf n m) .1) c u (sym e ∙ f .answer-is)) in
+      record {
+        numbers-are = ap (λ (x : Table). numbers x (syncOf n m)) (f .table-is) ∙ sym (ap (λ (r : Numbers × Option Key). r .0) t);
+        answer-is = sym (ap (λ (r : Numbers × Option Key). answerOf (r .1)) t);
+        kept = record { kept-data = f .kept; kept-sync = k .kept-sync };
+      }
+
+  -- it gave nothing, and the synchronisation table was swept too
+  pub checks-both : (a b : SweepAnswer) (y : SyncTable) (sp ss : Rows) → pairs.Follows (d .table) dp ds a (pairs.answered (sweep announce now (dataOf n m))) → a ≡ Quiet
+      → pairs.Follows (y .table) sp ss b (pairs.answered (sweep announce now (syncOf n m)))
+      → Follows (record { «data» = d; sync = y }) (lent dp ds sp ss) b (answered (timeouts announce now (numbersOf n m)))
+  checks-both a b y sp ss f e g =
+      let t = timeouts-on announce now (numbersOf n m) (answer-none (sweep announce now (dataOf n m) .1) (sym e ∙ f .answer-is)) in
+      record {
+        numbers-are = ap (λ (x : Table). numbers x (tableOf (y .table) sp ss)) (f .table-is) ∙ ap (numbers (sweep announce now (dataOf n m) .0)) (g .table-is) ∙ sym (ap (λ (r : Numbers × Option Key). r .0) t);
+        answer-is = g .answer-is ∙ sym (ap (λ (r : Numbers × Option Key). answerOf (r .1)) t);
+        kept = record { kept-data = f .kept; kept-sync = g .kept };
+      }
+
+-- a removal, by whether the data pair was known
+known-first : (j : Key) (x : Numbers) → not (unknown (pairAt j (x .data-table .pairs))) ≡ true → removed j x ≡ numbers (without j (x .data-table)) (without j (x .sync-table))
+unfolding removed
+known-first j x e = split (unknown (pairAt j (x .data-table .pairs))) (λ h. let z : false ≡ true = rw h at e in clash z refl) (λ h. rw h)
+
+unknown-first : (j : Key) (x : Numbers) → not (unknown (pairAt j (x .data-table .pairs))) ≡ false → removed j x ≡ numbers (without j (x .data-table)) (x .sync-table)
+unfolding removed
+unknown-first j x e = split (unknown (pairAt j (x .data-table .pairs))) (λ h. rw h) (λ h. let z : true ≡ false = rw h at e in clash refl z)
+
+module _ (n : SequenceNumbering) (m : Lent) (k : Kept n m) (j : Key) (d : DataTable) (dp ds : Rows) (known : Bool)
+    (f : pairs.Follows (d .table) dp ds known (removal j (dataOf n m))) where
+  pub removes-both : (y : SyncTable) (sp ss : Rows) (b : Bool) → known ≡ true → pairs.Follows (y .table) sp ss b (removal j (syncOf n m))
+      → (numbersOf (record { «data» = d; sync = y }) (lent dp ds sp ss) ≡ removed j (numbersOf n m)) × Kept (record { «data» = d; sync = y }) (lent dp ds sp ss)
+  removes-both y sp ss b e g =
+      (ap (λ (x : Table). numbers x (tableOf (y .table) sp ss)) (f .table-is) ∙ ap (numbers (without j (dataOf n m))) (g .table-is) ∙ sym (known-first j (numbersOf n m) (sym (f .answer-is) ∙ e)),
+      record { kept-data = f .kept; kept-sync = g .kept })
+
+  pub removes-none : known ≡ false
+      → (numbersOf (record { «data» = d; sync = n .sync }) (lent dp ds (m .sync-pairs) (m .sync-sources)) ≡ removed j (numbersOf n m))
+      × Kept (record { «data» = d; sync = n .sync }) (lent dp ds (m .sync-pairs) (m .sync-sources))
+  removes-none e =
+      (ap (λ (x : Table). numbers x (syncOf n m)) (f .table-is) ∙ sym (unknown-first j (numbersOf n m) (sym (f .answer-is) ∙ e)),
+      record { kept-data = f .kept; kept-sync = k .kept-sync })

@@ -1,0 +1,100 @@
+// Both pair tables, as the crate's `SequenceNumbering`: data and synchronisation are counted apart.
+ghost use mathlib.Core.Path.{_≡_};
+ghost use Prim.Native.Nat.{_≤_};
+ghost use lib.ListN.{length};
+ghost use Rattle.pairs.specs.Table.{key};
+ghost use Rattle.sequences.specs.Sequences.{timeouts, removed};
+ghost use Rattle.sequences.specs.View.{lent, numbersOf, Kept, Follows, Emptied, answered};
+use pairs::DataTable;
+use pairs::SweepAnswer;
+use pairs::SyncTable;
+use rules::Cid;
+
+pub struct SequenceNumbering {
+    pub data: DataTable,
+    pub sync: SyncTable,
+}
+
+pub struct TimeoutsChecked {
+    pub sequences: SequenceNumbering,
+    pub answer: SweepAnswer,
+}
+
+impl SequenceNumbering {
+    pub fn new() -> SequenceNumbering
+        ensures { λ r. ⌜ Emptied r ⌝ }
+    {
+        let data = DataTable::new();
+        let sync = SyncTable::new();
+        SequenceNumbering { data, sync }
+    }
+
+    pub fn clear(self) -> SequenceNumbering
+        ensures { λ r. ⌜ Emptied r ⌝ }
+    {
+        let d = self.data;
+        let y = self.sync;
+        let data = d.clear();
+        let sync = y.clear();
+        SequenceNumbering { data, sync }
+    }
+
+    // The data table is swept, then the synchronisation table; number 4 ends it.
+    pub fn check_timeouts(
+        self,
+        data_pairs: &mut [[u64; 4]; 1024],
+        data_sources: &mut [[u64; 2]; 1024],
+        sync_pairs: &mut [[u64; 4]; 1024],
+        sync_sources: &mut [[u64; 2]; 1024],
+        announce: bool,
+        reading: u64,
+    ) -> TimeoutsChecked
+        requires { ⌜ Kept self (lent (now «data_pairs») (now «data_sources») (now «sync_pairs») (now «sync_sources»)) ⌝ }
+        ensures { λ r. ⌜ Follows (r .sequences) (lent (now («data_pairs» .exit)) (now («data_sources» .exit)) (now («sync_pairs» .exit)) (now («sync_sources» .exit))) (r .answer) (answered (timeouts announce reading (numbersOf self (lent (now («data_pairs» .entry)) (now («data_sources» .entry)) (now («sync_pairs» .entry)) (now («sync_sources» .entry)))))) ⌝ }
+    {
+        let d = self.data;
+        let y = self.sync;
+        let a = d.sweep(&mut *data_pairs, &mut *data_sources, announce, reading);
+        let data = a.table;
+        let told = a.answer;
+        let SweepAnswer::TimedOut(cid, universe) = told else {
+            let b = y.sweep(&mut *sync_pairs, &mut *sync_sources, announce, reading);
+            let sync = b.table;
+            let answer = b.answer;
+            return TimeoutsChecked {
+                sequences: SequenceNumbering { data, sync },
+                answer: answer,
+            };
+        };
+        TimeoutsChecked {
+            sequences: SequenceNumbering { data: data, sync: y },
+            answer: SweepAnswer::TimedOut(cid, universe),
+        }
+    }
+
+    // A stream that ends: its pair leaves the data table, and only if it was there the synchronisation table too.
+    pub fn remove_seq_numbers(
+        self,
+        data_pairs: &mut [[u64; 4]; 1024],
+        data_sources: &mut [[u64; 2]; 1024],
+        sync_pairs: &mut [[u64; 4]; 1024],
+        sync_sources: &mut [[u64; 2]; 1024],
+        cid: Cid,
+        universe: u16,
+    ) -> SequenceNumbering
+        requires { ⌜ Kept self (lent (now «data_pairs») (now «data_sources») (now «sync_pairs») (now «sync_sources»)) ⌝ }
+        ensures view { λ r. ⌜ numbersOf r (lent (now («data_pairs» .exit)) (now («data_sources» .exit)) (now («sync_pairs» .exit)) (now («sync_sources» .exit))) ≡ removed (key cid universe) (numbersOf self (lent (now («data_pairs» .entry)) (now («data_sources» .entry)) (now («sync_pairs» .entry)) (now («sync_sources» .entry)))) ⌝ }
+        ensures kept { λ r. ⌜ Kept r (lent (now («data_pairs» .exit)) (now («data_sources» .exit)) (now («sync_pairs» .exit)) (now («sync_sources» .exit))) ⌝ }
+    {
+        let d = self.data;
+        let y = self.sync;
+        let a = d.remove(&mut *data_pairs, &mut *data_sources, cid, universe);
+        let data = a.table;
+        if a.known {
+            let b = y.remove(&mut *sync_pairs, &mut *sync_sources, cid, universe);
+            let sync = b.table;
+            return SequenceNumbering { data, sync };
+        }
+        SequenceNumbering { data: data, sync: y }
+    }
+}
