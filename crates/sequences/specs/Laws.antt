@@ -82,13 +82,15 @@ module _ (n : SequenceNumbering) (m : Lent) (k : Kept n m) (j : Key) (d : DataTa
     (f : pairs.Follows (d .table) dp ds known (removal j (dataOf n m))) where
   pub removes-both : (y : SyncTable) (sp ss : Rows) (b : Bool) → known ≡ true → pairs.Follows (y .table) sp ss b (removal j (syncOf n m))
       → (numbersOf (record { «data» = d; sync = y }) (lent dp ds sp ss) ≡ removed j (numbersOf n m)) × Kept (record { «data» = d; sync = y }) (lent dp ds sp ss)
-  removes-both y sp ss b e g =
-      (ap (λ (x : Table). numbers x (tableOf (y .table) sp ss)) (f .table-is) ∙ ap (numbers (without j (dataOf n m))) (g .table-is) ∙ sym (known-first j (numbersOf n m) (sym (f .answer-is) ∙ e)),
-      record { kept-data = f .kept; kept-sync = g .kept })
+  removes-both y sp ss b e g = (
+    ap (λ (x : Table). numbers x (tableOf (y .table) sp ss)) (f .table-is) ∙ ap (numbers (without j (dataOf n m))) (g .table-is) ∙ sym (known-first j (numbersOf n m) (sym (f .answer-is) ∙ e)),
+    record { kept-data = f .kept; kept-sync = g .kept },
+  )
 
   pub removes-none : known ≡ false
       → (numbersOf (record { «data» = d; sync = n .sync }) (lent dp ds (m .sync-pairs) (m .sync-sources)) ≡ removed j (numbersOf n m))
       × Kept (record { «data» = d; sync = n .sync }) (lent dp ds (m .sync-pairs) (m .sync-sources))
-  removes-none e =
-      (ap (λ (x : Table). numbers x (syncOf n m)) (f .table-is) ∙ sym (unknown-first j (numbersOf n m) (sym (f .answer-is) ∙ e)),
-      record { kept-data = f .kept; kept-sync = k .kept-sync })
+  removes-none e = (
+    ap (λ (x : Table). numbers x (syncOf n m)) (f .table-is) ∙ sym (unknown-first j (numbersOf n m) (sym (f .answer-is) ∙ e)),
+    record { kept-data = f .kept; kept-sync = k .kept-sync },
+  )

@@ -67,7 +67,10 @@ impl SequenceNumbering {
             };
         };
         TimeoutsChecked {
-            sequences: SequenceNumbering { data: data, sync: y },
+            sequences: SequenceNumbering {
+                data: data,
+                sync: y,
+            },
             answer: SweepAnswer::TimedOut(cid, universe),
         }
     }
@@ -95,6 +98,9 @@ impl SequenceNumbering {
             let sync = b.table;
             return SequenceNumbering { data, sync };
         }
-        SequenceNumbering { data: data, sync: y }
+        SequenceNumbering {
+            data: data,
+            sync: y,
+        }
     }
 }
