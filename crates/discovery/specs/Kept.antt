@@ -37,7 +37,7 @@ module _ (f : Source → Source) (e : (s : Source) → f s .cid ≡ s .cid) wher
   once-changed [] o = tt
   once-changed (s ∷ ss) o = (rw (e s) (any-changed (s .cid) ss ∙ o .0), once-changed ss (o .1))
 
-any-append : (p : Source → Bool) (ss ts : List Source) → any p (ss ++ ts) ≡ cond (any p ss) true (any p ts)
+pub any-append : {A : Type 0} (p : A → Bool) (ss ts : List A) → any p (ss ++ ts) ≡ cond (any p ss) true (any p ts)
 unfolding any
 any-append p [] ts = refl
 any-append p (s ∷ ss) ts = let r = any-append p ss ts in split (p s) (λ h. cc) (λ h. cc)
@@ -57,7 +57,7 @@ once-append (t ∷ ss) s h o =
 any-dropped : (c : Cid) (ss : List Source) → any (λ t. same (t .cid) c) (drop-source c ss) ≡ false
 any-dropped c ss = none-lookup c (drop-source c ss) (lookup-drop c c ss ∙ (rw (same-refl c)))
 
-once-drop : (c : Cid) (ss : List Source) → Once ss → Once (drop-source c ss)
+pub once-drop : (c : Cid) (ss : List Source) → Once ss → Once (drop-source c ss)
 unfolding drop-source
 once-drop c ss o = once-keep (λ s. not (same (s .cid) c)) ss o
 
@@ -205,7 +205,7 @@ pub record Fitting (a : Announcement) : Type 0 where
   pub short-name : length (a .name) ≤ most-name
   pub few-universes : length (a .universes) ≤ most-universes
 
-proper-begun : (now : ℕ) (a : Announcement) → Fitting a → Proper (begun now a)
+pub proper-begun : (now : ℕ) (a : Announcement) → Fitting a → Proper (begun now a)
 unfolding begun any
 proper-begun now a f = record {
   short-name = f .short-name;
@@ -214,7 +214,7 @@ proper-begun now a f = record {
   proper-pages = (record { few-universes = f .few-universes }, tt);
 }
 
-proper-extended : (now : ℕ) (a : Announcement) (s : Source) → Fitting a → Proper s → Proper (extended now a s)
+pub proper-extended : (now : ℕ) (a : Announcement) (s : Source) → Fitting a → Proper s → Proper (extended now a s)
 unfolding extended
 proper-extended now a s f p =
     let ps = s .pages ++ pageOf a ∷ [] in
@@ -234,11 +234,11 @@ proper-cut u s p = record {
   proper-pages = proper-cut-pages u (s .pages) (p .proper-pages);
 }
 
-all-append : (ss : List Source) (s : Source) → All-proper ss → Proper s → All-proper (ss ++ s ∷ [])
+pub all-append : (ss : List Source) (s : Source) → All-proper ss → Proper s → All-proper (ss ++ s ∷ [])
 all-append [] s a p = (p, tt)
 all-append (t ∷ ss) s a p = (a .0, all-append ss s (a .1) p)
 
-all-keep : (p : Source → Bool) (ss : List Source) → All-proper ss → All-proper (keep p ss)
+pub all-keep : (p : Source → Bool) (ss : List Source) → All-proper ss → All-proper (keep p ss)
 unfolding keep
 all-keep p [] a = tt
 all-keep p (s ∷ ss) a = let r = all-keep p ss (a .1) in split (p s) (λ h. rw h (a .0, r)) (λ h. rw h r)
@@ -256,7 +256,7 @@ all-cut c u (s ∷ ss) a =
     let r = all-cut c u ss (a .1) in
     split (same (s .cid) c) (λ h. rw h (proper-cut u s (a .0), r)) (λ h. rw h (a .0, r))
 
-proper-lookup : (c : Cid) (ss : List Source) (s : Source) → All-proper ss → lookup c ss ≡ some s → Proper s
+pub proper-lookup : (c : Cid) (ss : List Source) (s : Source) → All-proper ss → lookup c ss ≡ some s → Proper s
 unfolding lookup
 proper-lookup c [] s a h = missing {C = Proper s} s h refl
 proper-lookup c (t ∷ ss) s a h =
@@ -269,17 +269,17 @@ abbrev pub pages-of : Option Source → ℕ
 pages-of none = 0
 pages-of (some s) = length (s .pages)
 
-count-append : (ss : List Source) (s : Source) → page-count (ss ++ s ∷ []) ≡ page-count ss + length (s .pages)
+pub count-append : (ss : List Source) (s : Source) → page-count (ss ++ s ∷ []) ≡ page-count ss + length (s .pages)
 unfolding page-count
 count-append [] s = omega arith
 count-append (t ∷ ss) s = omega (arith, count-append ss s)
 
-count-keep : (p : Source → Bool) (ss : List Source) → page-count (keep p ss) ≤ page-count ss
+pub count-keep : (p : Source → Bool) (ss : List Source) → page-count (keep p ss) ≤ page-count ss
 unfolding page-count keep
 count-keep p [] = omega arith
 count-keep p (s ∷ ss) = let r = count-keep p ss in split (p s) (λ h. rw h (omega arith)) (λ h. rw h (omega arith))
 
-dropped-none : (c : Cid) (ss : List Source) → any (λ t. same (t .cid) c) ss ≡ false → drop-source c ss ≡ ss
+pub dropped-none : (c : Cid) (ss : List Source) → any (λ t. same (t .cid) c) ss ≡ false → drop-source c ss ≡ ss
 unfolding drop-source
 dropped-none c ss h = keep-all (λ s. not (same (s .cid) c)) (λ s. same (s .cid) c) ss (λ s e. rw e) h
 
@@ -294,7 +294,7 @@ count-drop c (s ∷ ss) o =
     rw h (ap (λ (l : List Source). length (s .pages) + page-count l) (dropped-none c ss q)))
     (λ h. let r = count-drop c ss (o .1) in rw h (omega arith))
 
-updated-none : (s : Source) (ss : List Source) → any (λ t. same (t .cid) (s .cid)) ss ≡ false → updated s ss ≡ ss
+pub updated-none : (s : Source) (ss : List Source) → any (λ t. same (t .cid) (s .cid)) ss ≡ false → updated s ss ≡ ss
 unfolding updated any
 updated-none s [] h = refl
 updated-none s (t ∷ ss) h =
@@ -373,9 +373,14 @@ ordered-noting (list s) d o f p h = record {
   fit = omega (arith, held-noting (list s) d o f);
 }
 
-length-extended : (now : ℕ) (a : Announcement) (s : Source) → length (extended now a s .pages) ≡ suc (length (s .pages))
+pub length-extended : (now : ℕ) (a : Announcement) (s : Source) → length (extended now a s .pages) ≡ suc (length (s .pages))
 unfolding extended
 length-extended now a s = omega (arith, length-sorted (s .pages ++ pageOf a ∷ []), length-append (s .pages) (pageOf a ∷ []))
+
+-- a source extended has its CID
+pub lookup-extended : (now : ℕ) (a : Announcement) (t : Source) (ss : List Source) → lookup (a .cid) ss ≡ some t → lookup (extended now a t .cid) ss ≡ some t
+unfolding extended
+lookup-extended now a t ss e = ap (λ (c : Cid). lookup c ss) (lookup-cid (a .cid) ss t e) ∙ e
 
 notable-first : (b : Bool) (d : Discovered) (s : Source) → lookup (s .cid) (d .partial) ≡ none → length (s .pages) ≡ 1 → Notable (cond b (list s) (begin s)) d
 notable-first true d s e l = rw e l
@@ -392,10 +397,7 @@ unfolding noted begun extended
 notable-noted now a d =
     found {C = Notable (noted now a (lookup (a .cid) (d .partial))) d} (lookup (a .cid) (d .partial))
     (λ e. rw e (notable-first (eqb (a .page) 0 && eqb (a .last-page) 0) d (begun now a) e refl))
-    (λ t e. rw e (notable-next (complete (extended now a t)) d (extended now a t) t (same-cid t e) (length-extended now a t)))
-  where
-    same-cid : (t : Source) → lookup (a .cid) (d .partial) ≡ some t → lookup (extended now a t .cid) (d .partial) ≡ some t
-    same-cid t e = ap (λ (c : Cid). lookup c (d .partial)) (lookup-cid (a .cid) (d .partial) t e) ∙ e
+    (λ t e. rw e (notable-next (complete (extended now a t)) d (extended now a t) t (lookup-extended now a t (d .partial) e) (length-extended now a t)))
 
 source-either : (b : Bool) (s : Source) → noted-source (cond b (list s) (begin s)) ≡ s
 source-either true s = refl

@@ -2,3 +2,14 @@ pub mod Discovery
 pub mod Laws
 pub mod Kept
 pub mod Trials
+pub mod Store
+pub mod Leaves
+pub mod Moves
+pub mod Pool
+pub mod Rows
+pub mod View
+pub mod Steps
+pub mod Calls
+pub mod Arrive
+pub mod Sweep
+pub mod Reads

@@ -1,7 +1,6 @@
 -- Document 01, 'Trial values': which pages list a source whose last page is 1.
 -- Assumes nothing.
 use mathlib.Core.Path.{_≡_, refl}
-use mathlib.Core.Bool.{not}
 use mathlib.Core.List.{List, [], _∷_, map}
 use Prim.Native.Nat.{ℕ}
 use Rattle.table.specs.Table.{keep, any}

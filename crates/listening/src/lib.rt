@@ -44,7 +44,7 @@ enum Joined {
     Full,
 }
 
-// The first illegal universe of several.
+// The first illegal universe, if there is one.
 enum Illegal {
     First(u16),
     Nothing,
@@ -67,6 +67,7 @@ fn place_of(rows: &[u16; 1024], n: usize, universe: u16) -> usize
     i
 }
 
+// Where this universe stands among the first n, or would be put in.
 fn find(rows: &[u16; 1024], n: usize, universe: u16) -> Spot
     requires { ⌜ (n ≤ 1024) × (length (now rows) ≡ 1024) ⌝ }
     ensures { λ r. ⌜ r ≡ spotOf universe (take n (now (rows .entry))) ⌝ }
@@ -145,6 +146,7 @@ fn join_all(rows: &mut [u16; 1024], n: usize, universes: &[u16]) -> Joined
     Joined::Count(count)
 }
 
+// The first of the universes that is out of range.
 fn first_illegal(universes: &[u16]) -> Illegal
     ensures { λ r. ⌜ r ≡ illegalOf (illegal (now (universes .entry))) ⌝ }
 {
@@ -230,6 +232,7 @@ impl Listened {
         }
     }
 
+    // 2 for an illegal universe, then 3 for one that isn't listened to.
     pub fn mute_universe(self, rows: &mut [u16; 1024], universe: u16) -> MuteDone
         requires { ⌜ Kept self (now rows) ⌝ }
         ensures { λ r. ⌜ Mutes universe self (now (rows .entry)) r (now (rows .exit)) ⌝ }

@@ -1,22 +1,20 @@
 -- What an answer of either merge says of its data, for callers.
 -- Assumes nothing.
-use mathlib.Core.Path.{_≡_, refl, sym, ap, _∙_}
-use mathlib.Core.Bool.{Bool, true, false, cond}
-use mathlib.Core.Option.{Option, none, some}
-use mathlib.Core.List.{List, [], _∷_, _++_}
-use Prim.Native.Nat.{ℕ, _≤_, _<_, max}
+use mathlib.Core.Path.{_≡_, ap, _∙_}
+use mathlib.Core.Option.{none, some}
+use mathlib.Core.List.{List, _++_}
+use Prim.Native.Nat.{ℕ, _≤_, max}
 use native.Mathlib.Omega.{arith}
 use lib.Dec.{ltb}
 use lib.ListN.{length, take, drop}
 use lib.Seq.{take-append-seam}
 use borrow.Author.Tests.{ltb-true}
-use Rattle.table.specs.Cases.{split, found}
+use Rattle.table.specs.Cases.{split}
 use Rattle.merge.specs.declared.DmxData.{DmxData}
 use Rattle.merge.specs.declared.HtpAnswer.{HtpAnswer}
 use Rattle.merge.specs.declared.HtpAnswer.the-variants as htp
-use Rattle.merge.specs.declared.Choice.{Choice}
 use Rattle.merge.specs.declared.Choice.the-variants.{Older, Newer, TooLong}
-use Rattle.merge.specs.Merge.{Dmx, most-values, mergeable, joined, htp-merge, preferred, too-long, htp-with, htp-answer, htp-output, choice}
+use Rattle.merge.specs.Merge.{Dmx, most-values, mergeable, joined, htp-merge, preferred, htp-with, htp-answer, htp-output, choice}
 use Rattle.merge.specs.Returns.{long-neither}
 
 impossible : {C : Type 0} → _≡_ {A = ℕ} 0 1 → C

@@ -1,12 +1,12 @@
 -- The two merges by the tests that their code makes, in its order: one law for each return.
 -- Assumes nothing.
 use mathlib.Core.Path.{_≡_, refl, sym, ap, _∙_, subst}
-use mathlib.Core.Bool.{Bool, true, false, cond, _&&_}
-use mathlib.Core.Option.{Option, none, some}
+use mathlib.Core.Bool.{true, false, _&&_}
+use mathlib.Core.Option.{none, some}
 use mathlib.Core.List.{List, [], _∷_, _++_}
 use Prim.Native.Nat.{ℕ, zero, suc, _+_, _≤_, _<_, max}
 use native.Mathlib.Omega.{arith}
-use lib.Dec.{ltb, eqb}
+use lib.Dec.{eqb}
 use native.Mathlib.Numerals.{add-one}
 use native.Mathlib.Nat.{zero-add}
 use lib.ListN.{length, take, drop, getD, set, take-append-drop}
@@ -16,10 +16,9 @@ use Rattle.table.specs.Parts.{pasted, pasted-append, pasted-front}
 use Rattle.merge.specs.declared.DmxData.{DmxData}
 use Rattle.merge.specs.declared.HtpAnswer.{HtpAnswer}
 use Rattle.merge.specs.declared.HtpAnswer.the-variants as htp
-use Rattle.merge.specs.declared.Choice.{Choice}
 use Rattle.merge.specs.declared.Choice.the-variants.{Older, Newer, TooLong}
 use Rattle.merge.specs.Merge.{Dmx, most-values, same-start, mergeable, highest, blended, joined, htp-merge, too-long, htp-with, htp-answer, htp-output, choice}
-use Rattle.merge.specs.Laws.{length-highest, highest-comm}
+use Rattle.merge.specs.Laws.{length-highest}
 
 -- ── the highest values, place by place ──
 -- a place of both lists, where the first is not the longer

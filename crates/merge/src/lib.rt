@@ -60,18 +60,21 @@ pub fn copy_values(values: &[u8], out: &mut [u8], at: usize)
     }
 }
 
+// The larger of two values.
 fn larger(a: u8, b: u8) -> u8
     ensures { λ r. ⌜ r ≡ max a b ⌝ }
 {
-    if a < b { b } else { a }
+    if b < a { a } else { b }
 }
 
+// The longer of two lengths.
 fn longer(a: usize, b: usize) -> usize
     ensures { λ r. ⌜ r ≡ max a b ⌝ }
 {
     if a < b { b } else { a }
 }
 
+// Either of two flags.
 fn either(a: bool, b: bool) -> bool
     ensures { λ r. ⌜ r ≡ (a || b) ⌝ }
 {
@@ -150,7 +153,7 @@ pub fn htp_dmx_merge(
         if out.len() < needed {
             return HtpAnswer::OutputShort(needed);
         }
-        if newer.priority < older.priority {
+        if older.priority > newer.priority {
             copy_values(older_values, out, 0);
             return HtpAnswer::Merged(older, n);
         }

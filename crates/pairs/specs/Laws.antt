@@ -12,7 +12,7 @@ use lib.ListN.{length}
 use borrow.Author.Tests.{leb-false, lt-leb}
 use Rattle.table.specs.Cases.{split, clash, found, missing}
 use Rattle.table.specs.Order.{tri, keyed}
-use Rattle.table.specs.Table.{keep, any, find, store, remove, Ascending, pass, other-than, ext, keep-idem, keep-all, length-keep, length-remove}
+use Rattle.table.specs.Table.{keep, any, find, store, remove, Ascending, Under, pass, other-than, ext, keep-idem, keep-all, length-keep, length-remove}
 use Rattle.table.specs.Table.{find-store-same, find-store-other, find-keep, find-remove-other, find-remove-same, remove-absent, remove-keep}
 use Rattle.table.specs.Table.{ascending-store, ascending-keep, ascending-remove, length-store-new, length-store-known, store-store, remove-store, remove-remove, keep-store, keep-remove}
 use Rattle.rules.specs.declared.Cid.{Cid}
@@ -23,7 +23,7 @@ use Rattle.settings.specs.declared.SourceLimit.{SourceLimit}
 use Rattle.pairs.specs.declared.Pair.{Pair}
 use Rattle.pairs.specs.declared.Checked.{Checked}
 use Rattle.pairs.specs.declared.Checked.the-variants.{Accepted, UniverseTimeout, SourcesExceeded, PairsFull, SourceWithoutPairs}
-use Rattle.pairs.specs.Table.{Key, keyOf, key-before, key-order, itself, Table, capacity, empty, pairAt, has, listed, leave, without, live, swept, lowest, noted, told, sweep}
+use Rattle.pairs.specs.Table.{last-noted, Key, keyOf, key-before, key-order, itself, Table, capacity, empty, pairAt, has, listed, leave, without, live, swept, lowest, noted, told, sweep}
 use Rattle.pairs.specs.Table.{recorded, reached, source-stop, unknown, full, sequence-stop, stop, settle, admit, after-sweep, check, Ordered}
 
 -- ── CIDs and keys that differ ──
@@ -512,3 +512,50 @@ never-16 limit announce p t g h =
     (λ f. let r = admit-stored limit p u f in let z : _≡_ {A = ℕ} 0 1 = cc in absurd (omega arith))
     (λ a f. let r = admit-stopped limit p u a f in never-stopped-16 limit p u s (cc)))
     (λ k e. let q = check-told limit announce p t u k (λ i. (u, e i)) in let z : _≡_ {A = ℕ} 0 1 = cc in absurd (omega arith))
+
+-- a pair that stands in a list above a key is above it
+under-found : (j k : Key) (p : Pair) (ps : List Pair) → Under key-before keyOf j ps → pairAt k ps ≡ some p → key-before j k ≡ true
+unfolding find
+under-found j k p [] u h = missing p h refl
+under-found j k p (x ∷ ps) u h =
+    tri key-before key-order (keyOf x) k
+    (λ f g. key-order .trans j (keyOf x) k (u .0) f)
+    (λ f. rw (← f) (u .0))
+    (λ f g. missing p h (cc))
+
+-- ── what number 4 names: a pair that stood in the table and was expired ──
+lowest-stands : (now : ℕ) (c : Cid) (ps : List Pair) (p : Pair) → Ascending key-before keyOf ps → lowest now ps c ≡ some p
+    → (pairAt (keyOf p) ps ≡ some p) × (expired now (p .reading) ≡ true) × (p .cid ≡ c)
+unfolding lowest find
+lowest-stands now c [] p a h = missing p h refl
+lowest-stands now c (x ∷ ps) p a h =
+    split (same (x .cid) c)
+    (λ s. split (expired now (x .reading))
+    (λ e.
+    let q : some x ≡ some p = cc in
+    let r : x ≡ p = cc in
+    let i = key-order .irrefl (keyOf p) in
+    (rw (r, i), rw (← r) e, rw (← r) (same-path (x .cid) c s)))
+    (λ e. later-one (lowest-stands now c ps p (a .1) (cc))))
+    (λ s. later-one (lowest-stands now c ps p (a .1) (cc)))
+  where
+    later-one : (pairAt (keyOf p) ps ≡ some p) × (expired now (p .reading) ≡ true) × (p .cid ≡ c) → (pairAt (keyOf p) (x ∷ ps) ≡ some p) × (expired now (p .reading) ≡ true) × (p .cid ≡ c)
+    later-one r = ((let u = under-found (keyOf x) (keyOf p) p ps (a .0) (r .0) in rw u (r .0)), r .1, r .2)
+
+last-noted-stands : (now : ℕ) (ps : List Pair) (cs : List Cid) (p : Pair) → Ascending key-before keyOf ps → last-noted now ps cs ≡ some p
+    → (pairAt (keyOf p) ps ≡ some p) × (expired now (p .reading) ≡ true)
+unfolding last-noted
+last-noted-stands now ps [] p a h = missing p h refl
+last-noted-stands now ps (c ∷ cs) p a h =
+    found (last-noted now ps cs)
+    (λ n. let r = lowest-stands now c ps p a (cc) in (r .0, r .1))
+    (λ q n. last-noted-stands now ps cs p a (cc))
+
+pub noted-stands : (now : ℕ) (ps : List Pair) (cs : List Cid) (p : Pair) → Ascending key-before keyOf ps → noted now ps cs ≡ some p
+    → (pairAt (keyOf p) ps ≡ some p) × (expired now (p .reading) ≡ true)
+unfolding noted
+noted-stands now ps [] p a h = missing p h refl
+noted-stands now ps (c ∷ cs) p a h =
+    found (lowest now ps c)
+    (λ n. missing p h (cc))
+    (λ q n. last-noted-stands now ps (c ∷ cs) p a (cc))

@@ -198,10 +198,10 @@ impl PairTable {
             };
             return Removal { table, known: true };
         }
-        let listed = drop_source(&mut *sources, self.source_count, cid);
+        let remaining = drop_source(&mut *sources, self.source_count, cid);
         let table = PairTable {
             count: left,
-            source_count: listed,
+            source_count: remaining,
             oldest: self.oldest,
             tidy: self.tidy,
         };

@@ -1,6 +1,8 @@
-// Document 01, 'Settings': preview, three announcements, merge choice and source limit. The setters take a record and hand back the next.
+// Document 01, 'Settings': preview, three announcements, merge choice and source limit. The setters take a record and hand back the next; those of `lent` change a record lent to them.
 ghost use mathlib.Core.Path.{_≡_};
 ghost use Rattle.settings.specs.Settings.{fresh, withPreview, withDiscovery, withTermination, withTimeout, withMerge, withoutLimit, limited};
+
+pub mod lent;
 
 // How a packet joins the data that waits for its universe.
 pub enum MergeChoice {

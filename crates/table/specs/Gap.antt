@@ -1,12 +1,12 @@
 -- A list with a gap, as a loop leaves it that moves elements from the top to make room: the element at place j counts for nothing.
 -- Assumes nothing.
-use mathlib.Core.Path.{_≡_, refl, sym, ap, _∙_}
-use mathlib.Core.List.{List, [], _∷_, _++_, append-nil}
+use mathlib.Core.Path.{_≡_, sym}
+use mathlib.Core.List.{List, _++_, append-nil}
 use Prim.Native.Nat.{ℕ, zero, suc, _+_, _-_, _≤_, _<_}
 use native.Mathlib.Omega.{arith}
 use native.Mathlib.Numerals.{add-one}
 use lib.ListN.{length, take, drop, getD, set, length-take, length-set, drop-of-length-le}
-use lib.Seq.{take-suc, take-set-lt, take-set-le, drop-set-lt, drop-cons, set-split, take-at, drop-at, length-take-le, getD-set-same, append-snoc, take-append-le, take-take}
+use lib.Seq.{take-suc, take-set-lt, take-set-le, drop-set-lt, drop-cons, set-split, take-at, drop-at, length-take-le, getD-set-same, append-snoc, take-take}
 use Rattle.table.specs.Place.{insertAt}
 
 -- the first n + 1 elements but for place j

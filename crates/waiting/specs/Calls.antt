@@ -1,14 +1,12 @@
 -- What each call shows: the waiting data that it makes, in order and within its count, and the memory that it keeps.
 -- Assumes nothing.
-use mathlib.Core.Path.{_≡_, refl, sym, ap, _∙_, subst}
-use mathlib.Core.Logic.{_≢_}
-use mathlib.Core.Bool.{Bool, true, false, not, cond}
+use mathlib.Core.Path.{_≡_, refl, sym, ap, _∙_}
+use mathlib.Core.Bool.{Bool, true, false, not}
 use mathlib.Core.Option.{Option, none, some}
-use mathlib.Core.List.{List, [], _∷_, _++_}
-use Prim.Native.Nat.{ℕ, zero, suc, _+_, _-_, _*_, _≤_, _<_}
+use mathlib.Core.List.{List, []}
+use Prim.Native.Nat.{ℕ, _+_, _-_, _*_, _≤_, _<_}
 use native.Mathlib.Omega.{arith}
-use native.Mathlib.Numerals.{add-one}
-use lib.Dec.{ltb, leb, eqb}
+use lib.Dec.{ltb}
 use lib.ListN.{length, take, drop, getD, set, length-take}
 use lib.Seq.{getD-take}
 use borrow.Author.Tests.{le-leb, lt-leb, ltb-true, ltb-false}
@@ -21,15 +19,13 @@ use Rattle.settings.specs.declared.MergeChoice.{MergeChoice}
 use Rattle.merge.specs.declared.DmxData.{DmxData}
 use Rattle.merge.specs.Merge.{Dmx}
 use Rattle.rules.specs.Age.{expired}
-use Rattle.merge.specs.Views.{dmx}
 use Rattle.waiting.specs.declared.StoreAnswer.{StoreAnswer}
 use Rattle.waiting.specs.declared.StoreAnswer.the-variants.{Stored, MergeRefused, WaitingFull}
-use Rattle.waiting.specs.declared.Found.{Found}
 use Rattle.waiting.specs.declared.Found.the-variants.{At, Before}
-use Rattle.waiting.specs.Waiting.{universeOf, waitingFor, capacity, merged, stored, cleared, held, fresh, swept, left, of-address, Ordered}
+use Rattle.waiting.specs.Waiting.{universeOf, waitingFor, capacity, merged, stored, cleared, held, fresh, swept, left, of-address}
 use Rattle.waiting.specs.Laws.{ordered-stored, ordered-cleared, ordered-swept, ordered-left, stored-merged, stored-refused, stored-full, stored-new, merged-universe}
-use Rattle.waiting.specs.Entries.{headOf, countOf, entries, nothing, waitingOf, Room, Kept, Lent, lent-none, lent-then, lent-room, kept-ordered, length-waiting, length-entries, prefix-entries, any-entries}
-use Rattle.waiting.specs.Posts.{Changed, Held, Joined, joinedAt, below, Sought}
+use Rattle.waiting.specs.Entries.{headOf, countOf, entries, nothing, waitingOf, Room, Kept, Lent, lent-none, lent-then, lent-room, kept-ordered, length-waiting, prefix-entries, any-entries}
+use Rattle.waiting.specs.Posts.{Held, Joined, below, Sought}
 use Rattle.waiting.specs.Passes.{head-at}
 use Rattle.waiting.specs.Joins.{read-entry}
 
@@ -43,6 +39,7 @@ pub record Yields (rows : List (List ℕ)) (store : List ℕ) (rows′ : List (L
 pub record StoredCall (n : ℕ) (rows : List (List ℕ)) (store : List ℕ) (choice : MergeChoice) (p : Dmx) (rows′ : List (List ℕ)) (store′ : List ℕ) (m : ℕ) (a : StoreAnswer) : Type 0 where
   pub yields : Yields rows store rows′ store′ m (stored choice p (waitingOf n rows store) .0)
   pub answers : a ≡ stored choice p (waitingOf n rows store) .1
+  pub full-unchanged : a ≡ WaitingFull → (rows′ ≡ rows) × (store′ ≡ store)
 
 -- `check_waiting_data_timeouts`; where nothing is expired, nothing is written
 pub record SweptCall (n : ℕ) (rows : List (List ℕ)) (store : List ℕ) (now : ℕ) (rows′ : List (List ℕ)) (store′ : List ℕ) (m : ℕ) : Type 0 where
@@ -63,6 +60,12 @@ yield n m rows rows′ store store′ ds k l f v a = record {
   lent = l;
   view = v;
 }
+
+not-full : {C : Type 0} → Stored ≡ WaitingFull → C
+not-full e = let z : _≡_ {A = ℕ} 0 1 = cc in absurd (omega arith)
+
+not-refused : {C : Type 0} → MergeRefused ≡ WaitingFull → C
+not-refused e = let z : _≡_ {A = ℕ} 0 1 = cc in absurd (omega arith)
 
 -- nothing changes
 pub unchanged : (n : ℕ) (rows : List (List ℕ)) (store : List ℕ) (ds : List Dmx) → Kept n rows store → waitingOf n rows store ≡ ds → Yields rows store rows store n ds
@@ -120,27 +123,28 @@ module _ (n : ℕ) (rows : List (List ℕ)) (store : List ℕ) (k : Kept n rows 
 
   -- ── `store_waiting_data` ──
   module _ (choice : MergeChoice) (p : Dmx) (i : ℕ) (f : length (p .values) ≤ 513) where
-    making : (rows′ : List (List ℕ)) (store′ : List ℕ) (m : ℕ) (a : StoreAnswer) (es : List Dmx) → stored choice p ds ≡ (es, a) → Lent rows store rows′ store′ → m ≤ 64
-        → waitingOf m rows′ store′ ≡ es → StoredCall n rows store choice p rows′ store′ m a
-    making rows′ store′ m a es e l h v =
+    making : (rows′ : List (List ℕ)) (store′ : List ℕ) (m : ℕ) (a : StoreAnswer) (es : List Dmx) → stored choice p ds ≡ (es, a) → (a ≡ WaitingFull → (rows′ ≡ rows) × (store′ ≡ store))
+        → Lent rows store rows′ store′ → m ≤ 64 → waitingOf m rows′ store′ ≡ es → StoredCall n rows store choice p rows′ store′ m a
+    making rows′ store′ m a es e z l h v =
         let o = ordered-stored choice p ds (kept-ordered k) f in
         let q : stored choice p ds .0 ≡ es = ap (λ (x : List Dmx × StoreAnswer). x .0) e in
         record {
           yields = yield n m rows rows′ store store′ (stored choice p ds .0) k l h (v ∙ sym q) (o .ascends);
           answers = sym (ap (λ (x : List Dmx × StoreAnswer). x .1) e);
+          full-unchanged = z;
         }
 
     pub stores-full : Sought (universeOf p) n rows (Before i) → 64 ≤ n → StoredCall n rows store choice p rows store n WaitingFull
     stores-full s h =
         let l = length-waiting k in
-        making rows store n WaitingFull ds (stored-full choice p ds (found-none (universeOf p) i s) (le-leb capacity (length ds) (omega arith))) (lent-none rows store) (k .count-fits) refl
+        making rows store n WaitingFull ds (stored-full choice p ds (found-none (universeOf p) i s) (le-leb capacity (length ds) (omega arith))) (λ e. (refl, refl)) (lent-none rows store) (k .count-fits) refl
 
     pub stores-new : (rows′ : List (List ℕ)) (store′ : List ℕ) → Sought (universeOf p) n rows (Before i) → n < 64
         → Held rows store rows′ store′ (n + 1) (insertAt i p (take n (entries rows store))) → StoredCall n rows store choice p rows′ store′ (n + 1) Stored
     stores-new rows′ store′ s h c =
         let l = length-waiting k in
         let e = store-insert ltb universeOf ℕ-order (universeOf p) ds p refl (found-none (universeOf p) i s) ∙ ap (λ (j : ℕ). insertAt j p ds) (placed (universeOf p) i (s .0)) in
-        making rows′ store′ (n + 1) Stored (put ltb universeOf p ds) (stored-new choice p ds (found-none (universeOf p) i s) (lt-leb capacity (length ds) (omega arith))) (c .lends) (omega arith) (c .holds ∙ sym e)
+        making rows′ store′ (n + 1) Stored (put ltb universeOf p ds) (stored-new choice p ds (found-none (universeOf p) i s) (lt-leb capacity (length ds) (omega arith))) (λ z. not-full z) (c .lends) (omega arith) (c .holds ∙ sym e)
 
     -- the merge of the entry found
     module _ (s : Sought (universeOf p) n rows (At i)) where
@@ -156,7 +160,7 @@ module _ (n : ℕ) (rows : List (List ℕ)) (store : List ℕ) (k : Kept n rows 
               let w = found-at (universeOf p) i s in
               let u = merged-universe choice waits p d (ap (λ (h : DmxData). h .universe) (sym (ap (λ (x : Dmx). x .head) (getD-take n (entries rows store) i nothing (s .1))) ∙ row-at (universeOf p) i (s .1)) ∙ s .2) m in
               let e = store-replace ltb universeOf ℕ-order (universeOf p) ds d waits u w ∙ ap (λ (q : ℕ). set ds q d) (placed (universeOf p) i (s .0)) in
-              making rows′ store′ n Stored (put ltb universeOf d ds) (stored-merged choice p ds waits d w m) (j .changed .lent) (k .count-fits)
+              making rows′ store′ n Stored (put ltb universeOf d ds) (stored-merged choice p ds waits d w m) (λ z. not-full z) (j .changed .lent) (k .count-fits)
               (ap (take n) (j .changed .becomes) ∙ replace (entries rows store) n i d ∙ sym e)
 
       -- refused: the entry is taken out of what the merge left as it was
@@ -168,7 +172,7 @@ module _ (n : ℕ) (rows : List (List ℕ)) (store : List ℕ) (k : Kept n rows 
           go (some d) m j = let z : false ≡ true = j .joins in let y : _≡_ {A = ℕ} 0 1 = cc in absurd (omega arith)
           go none m j =
               let b = k .count-fits in
-              making rows′ store′ (n - 1) MergeRefused (remove ltb universeOf (universeOf p) ds) (stored-refused choice p ds waits (found-at (universeOf p) i s) m) (lent-then (j .changed .lent) (c .lends)) (omega arith)
+              making rows′ store′ (n - 1) MergeRefused (remove ltb universeOf (universeOf p) ds) (stored-refused choice p ds waits (found-at (universeOf p) i s) m) (λ z. not-refused z) (lent-then (j .changed .lent) (c .lends)) (omega arith)
               (c .holds ∙ ap (λ (x : List Dmx). removeAt i (take n x)) (j .changed .becomes) ∙ sym (taken (universeOf p) i s))
 
   -- ── `check_waiting_data_timeouts` ──

@@ -1,26 +1,26 @@
 -- How waiting data lies in the memory that the caller lends: a row of nine words for each header, and a block of 513 bytes for its values.
 -- Assumes nothing.
-use mathlib.Core.Path.{_≡_, refl, sym, ap, _∙_, subst}
-use mathlib.Core.Bool.{Bool, true, false, not, cond}
+use mathlib.Core.Path.{_≡_, refl, sym, ap, _∙_}
+use mathlib.Core.Bool.{Bool, true, false, not}
 use mathlib.Core.List.{List, [], _∷_, _++_}
 use Prim.Native.Nat.{ℕ, zero, suc, _+_, _*_, _%_, _≤_, _<_, min}
 use native.Mathlib.Omega.{arith}
 use native.Mathlib.Nat.{mod-eq-of-lt}
 use lib.Dec.{ltb, eqb}
-use lib.ListN.{length, take, drop, getD, set, length-set, length-take, length-drop, length-append}
+use lib.ListN.{length, take, drop, getD, set, length-set, length-take, length-drop}
 use lib.Seq.{take-append-seam, take-append-le, take-take, drop-at, length-take-le, drop-drop}
 use Rattle.table.specs.Cases.{split}
-use Rattle.table.specs.Table.{Ascending, any, keep}
-use Rattle.table.specs.Place.{prefix, place}
+use Rattle.table.specs.Table.{Ascending, any}
+use Rattle.table.specs.Place.{prefix}
 use Rattle.table.specs.Parts.{pasted, pasted-front, drop-pasted, length-pasted, pasted-shift}
 use Rattle.rules.specs.declared.Cid.{Cid}
 use Rattle.merge.specs.declared.DmxData.{DmxData}
 use Rattle.merge.specs.declared.SourceCid.{SourceCid}
 use Rattle.merge.specs.declared.SourceCid.the-variants.{Merged, Of}
-use Rattle.merge.specs.Merge.{Dmx, most-values}
+use Rattle.merge.specs.Merge.{Dmx}
 use Rattle.merge.specs.Views.{dmx}
 use Rattle.waiting.specs.Records.{bit}
-use Rattle.waiting.specs.Waiting.{universeOf, capacity, fresh, Within, Ordered}
+use Rattle.waiting.specs.Waiting.{universeOf, Within, Ordered}
 
 -- ── the view ──
 abbrev pub ownerOf : Bool → Cid → SourceCid

@@ -1,27 +1,24 @@
 -- A packet joins the entry at its place: one law for each answer of the merge.
 -- Assumes nothing.
-use mathlib.Core.Path.{_≡_, refl, sym, ap, _∙_}
+use mathlib.Core.Path.{_≡_, refl, sym, _∙_}
 use mathlib.Core.Bool.{Bool, true, false}
-use mathlib.Core.Option.{Option, none, some}
-use mathlib.Core.List.{List, [], _∷_}
+use mathlib.Core.List.{List, []}
 use Prim.Native.Nat.{ℕ, _+_, _-_, _*_, _≤_, _<_}
 use native.Mathlib.Omega.{arith}
 use lib.ListN.{length, take, drop, getD, set, length-take}
 use lib.Seq.{set-getD}
-use Rattle.settings.specs.declared.MergeChoice.{MergeChoice}
 use Rattle.settings.specs.declared.MergeChoice.the-variants.{DiscardLowestPriorityThenPrevious, HtpDmxMerge}
 use Rattle.merge.specs.declared.DmxData.{DmxData}
 use Rattle.merge.specs.declared.HtpAnswer.{HtpAnswer}
 use Rattle.merge.specs.declared.HtpAnswer.the-variants as htp
-use Rattle.merge.specs.declared.Choice.{Choice}
 use Rattle.merge.specs.declared.Choice.the-variants.{Older, Newer, TooLong}
 use Rattle.merge.specs.Merge.{Dmx, most-values, joined, htp-merge, preferred, htp-answer, htp-output, choice}
 use Rattle.merge.specs.Laws.{joined-fits}
 use Rattle.merge.specs.Views.{dmx}
 use Rattle.merge.specs.Answers.{older-preferred, newer-preferred, choice-fits, htp-fits, htp-roomy, htp-refuses, htp-merges, htp-values}
-use Rattle.waiting.specs.Waiting.{merged, held}
-use Rattle.waiting.specs.Entries.{headOf, countOf, entries, nothing, Room, lent-none, length-entries, entry-at}
-use Rattle.waiting.specs.Posts.{Changed, Joined, joinedAt}
+use Rattle.waiting.specs.Waiting.{merged}
+use Rattle.waiting.specs.Entries.{headOf, countOf, entries, nothing, Room, lent-none, entry-at}
+use Rattle.waiting.specs.Posts.{Changed, Joined}
 
 module _ (rows : List (List ℕ)) (store : List ℕ) (i : ℕ) (r : Room rows store) (h : i < 64) where
   -- the entry at place i

@@ -3,21 +3,20 @@
 -- Assumes nothing.
 use mathlib.Core.Path.{_≡_, refl, sym, ap, _∙_}
 use mathlib.Core.Logic.{_≢_}
-use mathlib.Core.Option.{Option, none, some}
-use mathlib.Core.Bool.{Bool, true, false, cond, not}
-use mathlib.Core.List.{List, [], _∷_, _++_}
-use Prim.Native.Nat.{ℕ, zero, suc, _+_, _*_, _≤_, _<_}
+use mathlib.Core.Option.{none, some}
+use mathlib.Core.Bool.{Bool, true, false, not}
+use mathlib.Core.List.{List, [], _∷_}
+use Prim.Native.Nat.{ℕ, _+_, _*_, _≤_, _<_}
 use native.Mathlib.Omega.{arith}
-use lib.Dec.{ltb, leb, eqb}
+use lib.Dec.{ltb, leb}
 use lib.ListN.{length, length-append}
-use borrow.Author.Tests.{leb-true, leb-false, ne-eqb, eqb-true}
+use borrow.Author.Tests.{leb-false, ne-eqb, eqb-true}
 use Rattle.table.specs.Cases.{split, found}
 use Rattle.table.specs.Order.{ℕ-order, tri, keyed}
-use Rattle.table.specs.Table.{keep, find, store, remove, Ascending, pass, other-than}
-use Rattle.table.specs.Table.{keep-keep, keep-idem, keep-implied, length-keep, find-store-same, find-store-other, find-keep, find-kept, ascending-store, ascending-keep, ascending-remove, length-store-new, length-store-known, length-remove, find-remove-other, find-remove-same, remove-keep, remove-absent, store-store, store-again, keep-store, keep-store-skip, find-key}
+use Rattle.table.specs.Table.{keep, find, store, remove, Ascending, other-than}
+use Rattle.table.specs.Table.{keep-keep, keep-idem, keep-implied, length-keep, find-store-same, find-store-other, find-keep, find-kept, ascending-store, ascending-keep, ascending-remove, length-store-new, length-store-known, remove-keep, remove-absent, store-store, store-again, keep-store, keep-store-skip, find-key}
 use Rattle.rules.specs.Age.{expired}
 use Rattle.rules.specs.Bytes.{bigEndian, length-bigEndian}
-use Rattle.rules.specs.declared.Cid.{Cid}
 use Rattle.settings.specs.declared.MergeChoice.{MergeChoice}
 use Rattle.settings.specs.declared.MergeChoice.the-variants.{DiscardLowestPriorityThenPrevious, HtpDmxMerge}
 use Rattle.merge.specs.declared.SourceCid.{SourceCid}
@@ -27,7 +26,7 @@ use Rattle.merge.specs.Laws.{Like, htp-merge-like, joined-like, like-paired, jo
 use Rattle.waiting.specs.declared.StoreAnswer.{StoreAnswer}
 use Rattle.waiting.specs.declared.StoreAnswer.the-variants.{Stored, MergeRefused, WaitingFull}
 use Rattle.waiting.specs.Waiting.{universeOf, addressOf, waitingFor, capacity, merged, joining, stored, cleared, fresh, swept, of-address, released, left, Within, Ordered}
-use Rattle.waiting.specs.Records.{bit, owner, encode, records, most-bytes}
+use Rattle.waiting.specs.Records.{owner, encode, records, most-bytes}
 
 -- ── in order and within the counts ──
 pub within-keep : (t : Dmx → Bool) (ds : List Dmx) → Within ds → Within (keep t ds)

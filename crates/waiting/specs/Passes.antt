@@ -1,9 +1,9 @@
 -- The loops over entries: what holds between two turns, one law for a turn, one for the end.
 -- Assumes nothing.
 use mathlib.Core.Path.{_≡_, refl, sym, ap, _∙_}
-use mathlib.Core.Bool.{Bool, true, false, not, cond}
-use mathlib.Core.List.{List, [], _∷_, _++_, append-nil}
-use Prim.Native.Nat.{ℕ, zero, suc, _+_, _-_, _≤_, _<_}
+use mathlib.Core.Bool.{Bool, true, false}
+use mathlib.Core.List.{List, [], _++_, append-nil}
+use Prim.Native.Nat.{ℕ, suc, _+_, _-_, _≤_, _<_}
 use native.Mathlib.Omega.{arith}
 use native.Mathlib.Numerals.{add-one}
 use lib.ListN.{length, take, drop, getD, set}
@@ -14,7 +14,6 @@ use Rattle.table.specs.Arrays.{spent, move, compact-keep, compact-drop}
 use Rattle.table.specs.Gap.{gap, gap-start, gap-move, gap-fill}
 use Rattle.merge.specs.declared.DmxData.{DmxData}
 use Rattle.merge.specs.Merge.{Dmx}
-use Rattle.merge.specs.Views.{dmx}
 use Rattle.waiting.specs.Entries.{headOf, entries, nothing, Room, Lent, lent-none, lent-then, length-entries, entry-at}
 use Rattle.waiting.specs.Posts.{Changed, Held}
 

@@ -3,23 +3,18 @@
 use mathlib.Core.Path.{_≡_, refl, sym, ap, _∙_, subst}
 use mathlib.Core.Bool.{Bool, true, false, not, cond}
 use mathlib.Core.List.{List, [], _∷_, _++_, append-assoc}
-use Prim.Native.Nat.{ℕ, zero, suc, _+_, _-_, _*_, _/_, _%_, _≤_, _<_}
+use Prim.Native.Nat.{ℕ, suc, _+_, _/_, _%_, _≤_, _<_}
 use native.Mathlib.Omega.{arith}
-use native.Mathlib.Nat.{div-one, mod-eq-of-lt, zero-add}
-use lib.Dec.{ltb, eqb}
+use native.Mathlib.Nat.{div-one, mod-eq-of-lt}
+use lib.Dec.{eqb}
 use lib.ListN.{length, take, drop, getD, length-take, length-append}
-use borrow.Author.Tests.{eq-eqb, ne-eqb}
 use Rattle.table.specs.Cases.{split}
 use Rattle.table.specs.Table.{keep, length-keep}
 use Rattle.table.specs.Arrays.{next, spent}
 use Rattle.table.specs.Parts.{pasted, pasted-none, pasted-append, pasted-front, length-pasted}
 use Rattle.rules.specs.Age.{expired}
-use Rattle.rules.specs.Bytes.{bigEndian, length-bigEndian}
-use Rattle.rules.specs.Cid.{cidBytes}
-use Rattle.rules.specs.declared.Cid.{Cid}
+use Rattle.rules.specs.Bytes.{bigEndian}
 use Rattle.merge.specs.declared.DmxData.{DmxData}
-use Rattle.merge.specs.declared.SourceCid.{SourceCid}
-use Rattle.merge.specs.declared.SourceCid.the-variants.{Merged, Of}
 use Rattle.merge.specs.Merge.{Dmx}
 use Rattle.merge.specs.Views.{dmx}
 use Rattle.waiting.specs.Waiting.{fresh, of-address, released}

@@ -1,22 +1,22 @@
 // Document 01, 'Waiting data' and 'Released bytes': data that waits for the synchronisation of its address.
 ghost use mathlib.Core.Path.{_≡_};
 ghost use mathlib.Core.Logic.{_≢_};
-ghost use mathlib.Core.List.{List, [], _++_};
 ghost use mathlib.Core.Bool.{not};
-ghost use Prim.Native.Nat.{ℕ, _+_, _-_, _*_, _≤_, _<_};
-ghost use lib.ListN.{length, take, drop, getD, set};
-ghost use Rattle.table.specs.Place.{prefix, insertAt, removeAt};
-ghost use Rattle.table.specs.Table.{any, keep};
-ghost use Rattle.merge.specs.Merge.{Dmx, htp-merge, preferred};
-ghost use Rattle.table.specs.Parts.{pasted};
-ghost use Rattle.merge.specs.Views.{dmx};
-ghost use Rattle.waiting.specs.Entries.{headOf, countOf, ownerOf, rowOf, entryOf, entries, nothing, waitingOf, Room, Kept};
-ghost use Rattle.waiting.specs.Records.{bit};
-ghost use Rattle.waiting.specs.Written.{frontBytes, backBytes, due, Laid, Writing};
+ghost use mathlib.Core.List.{List, [], _++_};
+ghost use Prim.Native.Nat.{ℕ, _+_, _-_, _≤_, _<_};
 ghost use lib.Dec.{eqb};
+ghost use lib.ListN.{length, take, drop, getD, set};
+ghost use Rattle.table.specs.Table.{any, keep};
+ghost use Rattle.table.specs.Place.{prefix, insertAt, removeAt};
+ghost use Rattle.table.specs.Parts.{pasted};
+ghost use Rattle.merge.specs.Merge.{Dmx, htp-merge, preferred};
+ghost use Rattle.merge.specs.Views.{dmx};
 ghost use Rattle.waiting.specs.Waiting.{merged, cleared, released, left};
-ghost use Rattle.waiting.specs.Calls.{Empty, Yields, StoredCall, SweptCall};
+ghost use Rattle.waiting.specs.Records.{bit};
+ghost use Rattle.waiting.specs.Entries.{headOf, countOf, ownerOf, rowOf, entries, nothing, waitingOf, Room, Kept};
 ghost use Rattle.waiting.specs.Posts.{Rowed, Changed, Held, Joined, below, Apart, retained, Sought};
+ghost use Rattle.waiting.specs.Written.{frontBytes, backBytes, due, Laid, Writing};
+ghost use Rattle.waiting.specs.Calls.{Empty, Yields, StoredCall, SweptCall};
 use merge::Choice;
 use merge::DmxData;
 use merge::HtpAnswer;
@@ -33,13 +33,14 @@ pub enum StoreAnswer {
     WaitingFull,
 }
 
-// A flag as a word, and a word as a flag.
+// A flag as a word.
 fn word_of(on: bool) -> u64
     ensures { λ r. ⌜ r ≡ bit on ⌝ }
 {
     if on { 1 } else { 0 }
 }
 
+// Whose data it is, by the words that say whether there is a CID and which.
 fn source_of(present: u64, hi: u64, lo: u64) -> SourceCid
     ensures { λ r. ⌜ r ≡ ownerOf (eqb present 0) (record { hi = hi; lo = lo }) ⌝ }
 {
@@ -64,12 +65,14 @@ pub fn head_of(row: [u64; 9]) -> DmxData
     }
 }
 
+// How many values its block has.
 pub fn count_of(row: [u64; 9]) -> usize
     ensures { λ r. ⌜ r ≡ countOf row ⌝ }
 {
     if row[8] < 513 { row[8] as usize } else { 513 }
 }
 
+// A header and a CID's words as a row.
 fn row_with(d: DmxData, present: u64, hi: u64, lo: u64, n: usize) -> [u64; 9]
     ensures { λ r. ⌜ r ≡ rowOf d present hi lo n ⌝ }
 {
@@ -343,6 +346,8 @@ fn join_entry(
 }
 
 // ── released bytes ──
+
+// A flag as a byte.
 fn byte_of(on: bool) -> u8
     ensures { λ r. ⌜ r ≡ bit on ⌝ }
 {
@@ -475,6 +480,7 @@ fn write_release(
 }
 
 // ── the calls ──
+
 // How many universes wait; their rows and blocks are lent to every call.
 pub struct Waiting {
     pub count: usize,

@@ -1,6 +1,5 @@
 -- The fields are the definition's; `either` gives the preview.
 -- Assumes nothing.
-use mathlib.Core.Path.{_≡_}
 use Rattle.merge.specs.declared.SourceCid.the-variants.{Merged}
 use Rattle.merge.specs.Merge.{blended}
 use borrow.Author.Needs.{needs}

@@ -1,8 +1,5 @@
 -- The choice says which list is handed on.
 -- Assumes nothing.
-use mathlib.Core.Path.{_≡_, sym, ap}
-use mathlib.Core.List.{List}
-use Prim.Native.Nat.{ℕ}
 use Rattle.merge.specs.Merge.{chosen}
 use borrow.Author.Needs.{needs}
 use Rattle.merge.proofs.chosen_values.Statement.{statement}

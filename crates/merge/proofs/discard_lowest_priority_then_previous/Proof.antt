@@ -3,10 +3,6 @@
 use Rattle.merge.specs.Merge.{Dmx}
 use Rattle.merge.specs.Views.{dmx}
 use Rattle.merge.specs.Returns.{long-older, long-newer, long-neither, choice-long, choice-older, choice-newer}
-use mathlib.Core.Path.{_≡_, sym, ap, _∙_}
-use lib.ListN.{length}
-use borrow.Author.Tests.{lt-ltb, le-ltb}
-use Rattle.merge.specs.Merge.{choice, too-long}
 use Rattle.merge.proofs.discard_lowest_priority_then_previous.Statement.{statement}
 use Rattle.merge.proofs.discard_lowest_priority_then_previous.Tie as tie
 

@@ -1,13 +1,11 @@
 -- The tests are the definition's, in its order; what the copies leave is the winner's values, or the highest.
 -- Assumes nothing.
 use mathlib.Core.Path.{_≡_, refl, sym, _∙_}
-use mathlib.Core.Bool.{true, false}
+use mathlib.Core.Bool.{true}
 use mathlib.Core.Option.{none}
-use mathlib.Core.List.{List}
-use Prim.Native.Nat.{ℕ, _≤_, max}
+use Prim.Native.Nat.{_≤_, max}
 use native.Mathlib.Omega.{arith}
 use lib.ListN.{length}
-use Rattle.table.specs.Parts.{pasted}
 use Rattle.merge.specs.Merge.{Dmx, mergeable, too-long, highest, blended}
 use Rattle.merge.specs.Laws.{highest-comm}
 use Rattle.merge.specs.Views.{dmx}

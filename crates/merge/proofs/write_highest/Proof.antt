@@ -1,11 +1,11 @@
 -- The output is the copy of the highest values of the places passed; past the shorter list they are the longer one's tail.
 -- Assumes nothing.
-use mathlib.Core.Path.{_≡_, refl, sym, ap, _∙_}
+use mathlib.Core.Path.{_≡_, refl, ap, _∙_}
 use mathlib.Core.List.{List}
-use Prim.Native.Nat.{ℕ, _+_, _-_, _≤_}
+use Prim.Native.Nat.{ℕ, _-_, _≤_}
 use native.Mathlib.Omega.{arith}
-use lib.ListN.{length, drop, length-set}
-use lib.Seq.{paste, paste-zero}
+use lib.ListN.{length, length-set}
+use lib.Seq.{paste}
 use Rattle.merge.specs.Merge.{highest}
 use Rattle.table.specs.Parts.{pasted, part-rest}
 use Rattle.merge.specs.Returns.{highest-turn, highest-laid}

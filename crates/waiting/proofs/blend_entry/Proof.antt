@@ -6,7 +6,6 @@ use Prim.Native.Nat.{ℕ, _≤_}
 use native.Mathlib.Omega.{arith}
 use lib.ListN.{length, length-take, replicate}
 use lib.Seq.{length-take-le}
-use Rattle.merge.specs.declared.HtpAnswer.{HtpAnswer}
 use Rattle.merge.specs.Merge.{Dmx, htp-answer, htp-output}
 use Rattle.merge.specs.Views.{dmx}
 use Rattle.waiting.specs.Joins.{entry, read-entry, blend-refused, blend-long, blend-short, blend-count, blend-merged}

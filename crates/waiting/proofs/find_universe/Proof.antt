@@ -1,6 +1,6 @@
 -- The place is the number of universes below; the row there has the universe, or no row has.
 -- Assumes nothing.
-use mathlib.Core.Path.{_≡_, sym, ap, _∙_}
+use mathlib.Core.Path.{sym, ap, _∙_}
 use Rattle.merge.specs.declared.DmxData.{DmxData}
 use native.Mathlib.Omega.{arith}
 use borrow.Author.Needs.{needs}

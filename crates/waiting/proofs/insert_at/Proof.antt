@@ -1,7 +1,6 @@
 -- Between two turns place j counts for nothing; each turn moves the entry before it up, and the last store fills it.
 -- Assumes nothing.
 use mathlib.Core.Path.{_≡_, _∙_}
-use Prim.Native.Nat.{_-_}
 use native.Mathlib.Omega.{arith}
 use Rattle.merge.specs.Views.{dmx}
 use Rattle.waiting.specs.Entries.{lent-room}

@@ -1,6 +1,6 @@
 -- Each test is the definition's.
 -- Assumes nothing.
-use mathlib.Core.Path.{_≡_, sym, ap, _∙_}
+use mathlib.Core.Path.{sym, ap, _∙_}
 use mathlib.Core.Bool.{not}
 use Rattle.waiting.specs.Posts.{retained}
 use borrow.Author.Needs.{needs}

@@ -1,6 +1,6 @@
 -- The choice says which of the two.
 -- Assumes nothing.
-use mathlib.Core.Path.{_≡_, subst⁻¹}
+use mathlib.Core.Path.{subst⁻¹}
 use mathlib.Core.Bool.{true}
 use Rattle.settings.specs.declared.MergeChoice.{MergeChoice}
 use Rattle.merge.specs.Views.{dmx}

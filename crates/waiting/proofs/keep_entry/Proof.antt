@@ -1,10 +1,7 @@
 -- At its own place the entry is what it was.
 -- Assumes nothing.
-use mathlib.Core.Path.{_≡_, sym, ap, _∙_}
-use mathlib.Core.List.{List}
-use Prim.Native.Nat.{ℕ}
+use mathlib.Core.Path.{_≡_, sym}
 use native.Mathlib.Omega.{arith}
-use lib.ListN.{getD, set}
 use lib.Seq.{set-getD}
 use Rattle.waiting.specs.Entries.{entries, nothing, lent-none}
 use borrow.Author.Needs.{needs}

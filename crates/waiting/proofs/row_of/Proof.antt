@@ -1,7 +1,6 @@
 -- The row is the header's, so that it reads as the header; its numbers fit their fields.
 -- Assumes nothing.
-use mathlib.Core.Path.{_≡_, refl, sym, ap, _∙_}
-use native.Mathlib.Omega.{arith}
+use mathlib.Core.Path.{sym, ap, _∙_}
 use Rattle.waiting.specs.Entries.{headOf, countOf, row-back, count-back}
 use borrow.Author.Needs.{needs}
 use Rattle.waiting.proofs.row_of.Statement.{statement}

@@ -1,6 +1,5 @@
 -- The word that says whether there is a CID decides.
 -- Assumes nothing.
-use mathlib.Core.Path.{_≡_}
 use borrow.Author.Tests.{eq-eqb, ne-eqb}
 use Rattle.waiting.proofs.source_of.Statement.{statement}
 use Rattle.waiting.proofs.source_of.Tie as tie

@@ -1,9 +1,9 @@
 -- The parts are the record's; the CID's present byte and bytes go by the source.
 -- Assumes nothing.
-use mathlib.Core.Path.{_≡_, refl, sym, ap, _∙_}
-use mathlib.Core.List.{List, [], _∷_}
+use mathlib.Core.Path.{sym, ap, _∙_}
+use mathlib.Core.List.{List, _∷_}
 use Prim.Native.Nat.{ℕ, _<_}
-use lib.ListN.{length, replicate}
+use lib.ListN.{replicate}
 use Rattle.waiting.specs.Records.{owner}
 use Rattle.waiting.specs.Written.{record-laid}
 use borrow.Author.Needs.{needs}

@@ -1,15 +1,12 @@
 -- What is still to be written of the entries, laid from the present place on, makes the whole release.
 -- Assumes nothing.
 use mathlib.Core.Path.{_≡_, sym, ap, _∙_}
-use mathlib.Core.Bool.{true, false}
-use mathlib.Core.List.{[]}
-use Prim.Native.Nat.{ℕ, _+_, _-_, _*_, _≤_, _<_}
+use Prim.Native.Nat.{_+_, _-_, _≤_, _<_}
 use native.Mathlib.Omega.{arith}
-use lib.ListN.{length, take, drop, getD, length-take, length-drop}
+use lib.ListN.{length, take, getD, length-take}
 use Rattle.merge.specs.Merge.{Dmx}
-use Rattle.merge.specs.Views.{dmx}
 use Rattle.table.specs.Parts.{pasted}
-use Rattle.waiting.specs.Entries.{headOf, entries, nothing, length-entries}
+use Rattle.waiting.specs.Entries.{entries, nothing, length-entries}
 use Rattle.waiting.specs.Records.{encode, records}
 use Rattle.waiting.specs.Passes.{head-at}
 use Rattle.waiting.specs.Joins.{read-entry}

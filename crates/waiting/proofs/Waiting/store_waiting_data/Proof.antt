@@ -1,7 +1,7 @@
 -- The universe is at its place, and the packet joins it or both are lost; or it is not there, and the packet goes in if there is room.
 -- Assumes nothing.
-use mathlib.Core.Path.{_≡_, sym, _∙_, subst}
-use mathlib.Core.Bool.{Bool, true, false}
+use mathlib.Core.Path.{subst}
+use mathlib.Core.Bool.{Bool}
 use native.Mathlib.Omega.{arith}
 use lib.ListN.{getD}
 use Rattle.merge.specs.Merge.{Dmx}
@@ -88,7 +88,8 @@ insert-at-requires : tie.Need-insert-at-requires
 insert-at-requires c κs =
     let a = c .before .before .before .before in
     let s = start₂ a in
-    (s .pre .0 .room, before-within (s .args .packet .universe) (s .args .self .count) (a .i2 .given .0 .0) (s .args .rows .now) (before a), c .before .before .if2 .left, s .pre .1)
+    let w = before-within (s .args .packet .universe) (s .args .self .count) (a .i2 .given .0 .0) (s .args .rows .now) (before a) in
+    (s .pre .0 .room, omega arith, c .before .before .if2 .left, s .pre .1)
 
 add-t33 : tie.Need-add-t33
 add-t33 c = search needs

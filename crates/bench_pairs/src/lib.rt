@@ -1,0 +1,75 @@
+// An arrival at a pair table by the C calling convention, for the benchmark in bench/pairs.
+ghost use mathlib.Core.Path.{_≡_};
+ghost use Rattle.settings.specs.declared.SourceLimit.the-variants.{Unlimited};
+ghost use mathlib.Core.Bool.{false};
+ghost use Rattle.pairs.specs.Table.{numberOf, check};
+ghost use Rattle.pairs.specs.View.{tableOf, arriving, Kept, Follows};
+ghost use Rattle.bench_pairs.specs.Bench.{tableFrom, numbered};
+use pairs::Checked;
+use pairs::Pair;
+use pairs::PairTable;
+use rules::Cid;
+use settings::SourceLimit;
+
+// The header of a table, and the number of the last answer.
+#[repr(C)]
+pub struct Header {
+    pub count: usize,
+    pub source_count: usize,
+    pub oldest: u64,
+    pub tidy: bool,
+    pub number: u8,
+}
+
+fn number_of(answer: Checked) -> u8
+    ensures { λ r. ⌜ r ≡ numberOf answer ⌝ }
+{
+    match answer {
+        Checked::Accepted => 0,
+        Checked::UniverseTimeout(_, _) => 4,
+        Checked::SourcesExceeded(_) => 6,
+        Checked::OutOfSequence(_, _, _) => 7,
+        Checked::PairsFull => 10,
+        Checked::SourceWithoutPairs => 16,
+    }
+}
+
+#[no_mangle]
+pub extern "C" fn bench_check_seq_number(
+    header: Header,
+    pairs: &mut [[u64; 4]; 1024],
+    sources: &mut [[u64; 2]; 1024],
+    hi: u64,
+    lo: u64,
+    universe: u16,
+    sequence: u8,
+    reading: u64,
+) -> Header
+    requires { ⌜ Kept (tableFrom header) (now pairs) (now sources) ⌝ }
+    ensures { λ r. ⌜ Follows (tableFrom r) (now (pairs .exit)) (now (sources .exit)) (r .number) (numbered (check Unlimited false (arriving (record { hi = hi; lo = lo }) universe sequence reading) (tableOf (tableFrom header) (now (pairs .entry)) (now (sources .entry))))) ⌝ }
+{
+    let table = PairTable {
+        count: header.count,
+        source_count: header.source_count,
+        oldest: header.oldest,
+        tidy: header.tidy,
+    };
+    let cid = Cid { hi, lo };
+    let pair = Pair {
+        cid: cid,
+        universe: universe,
+        sequence: sequence,
+        reading: reading,
+    };
+    let r = table.check_seq_number(pairs, sources, SourceLimit::Unlimited, false, pair);
+    let t = r.table;
+    let answer = r.answer;
+    let number = number_of(answer);
+    Header {
+        count: t.count,
+        source_count: t.source_count,
+        oldest: t.oldest,
+        tidy: t.tidy,
+        number: number,
+    }
+}

@@ -1,0 +1,199 @@
+-- The k-th entry of a list that passes a test: where it stands, and how many there are.
+-- Assumes nothing.
+use mathlib.Core.Path.{_≡_, refl, ap, _∙_}
+use mathlib.Core.Bool.{Bool, true, false, cond}
+use mathlib.Core.List.{List, [], _∷_}
+use Prim.Native.Nat.{ℕ, zero, suc, _+_, _≤_, _<_}
+use native.Mathlib.Omega.{arith}
+use lib.Dec.{eqb}
+use lib.ListN.{length, take, drop, getD, length-take}
+use lib.Seq.{getD-take, drop-drop, take-take}
+use Rattle.table.specs.Cases.{split}
+use Rattle.table.specs.Table.{keep}
+use Rattle.table.specs.Arrays.{next}
+use Rattle.rules.specs.declared.Cid.{Cid}
+use Rattle.discovery.specs.declared.Discovery.{Discovery}
+use Rattle.discovery.specs.Discovery.{Page, Source}
+use Rattle.discovery.specs.Store.{pages-at, sourceOf, sources-at, viewOf}
+use Rattle.discovery.specs.Rows.{owned, headOf, leafAt, heads, leaves, total, amount}
+use Rattle.discovery.specs.View.{headsOf, leavesOf, discoveredOf}
+
+-- how many entries stand before the k-th that passes the test; all of them where there are not so many
+unfoldable pub nth : {A : Type 0} → (A → Bool) → ℕ → List A → ℕ
+nth p k [] = 0
+nth p zero (x ∷ l) = cond (p x) 0 (suc (nth p zero l))
+nth p (suc k) (x ∷ l) = cond (p x) (suc (nth p k l)) (suc (nth p (suc k) l))
+
+module _ {A : Type 0} (p : A → Bool) where
+  -- it is the k-th of those that pass
+  pub nth-keep : (k : ℕ) (l : List A) (d : A) → k < length (keep p l) → (nth p k l < length l) × (getD l (nth p k l) d ≡ getD (keep p l) k d)
+  unfolding nth keep
+  nth-keep k [] d h = absurd (omega arith)
+  nth-keep zero (x ∷ l) d h =
+      split (p x)
+      (λ e. rw e (omega arith, refl))
+      (λ e. let r = nth-keep zero l d (rw e at h) in let q = r .0 in rw e (omega arith, r .1))
+  nth-keep (suc k) (x ∷ l) d h =
+      split (p x)
+      (λ e. let g : suc k < length (x ∷ keep p l) = rw e at h in let r = nth-keep k l d (omega arith) in let q = r .0 in rw e (omega arith, r .1))
+      (λ e. let r = nth-keep (suc k) l d (rw e at h) in let q = r .0 in rw e (omega arith, r .1))
+
+  -- the next entry looked at
+  module _ (a : List A) (n r : ℕ) (d : A) (h : r < n) (l : r < length a) where
+    pub nth-here : p (getD a r d) ≡ true → r + nth p 0 (drop r (take n a)) ≡ r
+    unfolding nth
+    nth-here e = rw (next a n r d h l, e) (omega arith)
+
+    pub nth-past : (k : ℕ) → p (getD a r d) ≡ true → r + 1 + nth p k (drop (r + 1) (take n a)) ≡ r + nth p (suc k) (drop r (take n a))
+    unfolding nth
+    nth-past k e = rw (next a n r d h l, e) (omega arith)
+
+    pub nth-over : (k : ℕ) → p (getD a r d) ≡ false → r + 1 + nth p k (drop (r + 1) (take n a)) ≡ r + nth p k (drop r (take n a))
+    unfolding nth
+    nth-over zero e = rw (next a n r d h l, e) (omega arith)
+    nth-over (suc k) e = rw (next a n r d h l, e) (omega arith)
+
+    pub count-one : p (getD a r d) ≡ true → suc (length (keep p (drop (r + 1) (take n a)))) ≡ length (keep p (drop r (take n a)))
+    unfolding keep
+    count-one e = rw (next a n r d h l, e)
+
+    pub count-none : p (getD a r d) ≡ false → length (keep p (drop (r + 1) (take n a))) ≡ length (keep p (drop r (take n a)))
+    unfolding keep
+    count-none e = rw (next a n r d h l, e)
+
+-- ── the sources of a mark ──
+abbrev pub marked-row : ℕ → List ℕ → Bool
+marked-row m r = eqb (getD r 0 0) m
+
+pub sources-count : (m : ℕ) (rs ns : List (List ℕ)) (Q : Cid → List Page) → length (sources-at m (heads rs ns) Q) ≡ length (keep (marked-row m) rs)
+unfolding sources-at heads keep
+sources-count m [] ns Q = refl
+sources-count m (r ∷ rs) ns Q =
+    let e = sources-count m rs (drop 1 ns) Q in
+    split (marked-row m r) (λ h. rw h (ap suc e)) (λ h. rw h e)
+
+-- the k-th source of a mark is that of the k-th row
+pub sources-nth : (m k : ℕ) (rs ns : List (List ℕ)) (Q : Cid → List Page) (s₀ : Source) → k < length (sources-at m (heads rs ns) Q)
+    → (nth (marked-row m) k rs < length rs)
+    × (getD (sources-at m (heads rs ns) Q) k s₀ ≡ sourceOf Q (headOf (getD rs (nth (marked-row m) k rs) []) (getD ns (nth (marked-row m) k rs) [])))
+unfolding sources-at heads nth
+sources-nth m k [] ns Q s₀ h = absurd (omega arith)
+sources-nth m zero (r ∷ rs) ns Q s₀ h =
+    split (marked-row m r)
+    (λ e. rw e (omega arith, refl))
+    (λ e. let g = sources-nth m zero rs (drop 1 ns) Q s₀ (rw e at h) in let q = g .0 in rw e (omega arith, g .1 ∙ later ns))
+  where
+    later : (ns : List (List ℕ)) → sourceOf Q (headOf (getD rs (nth (marked-row m) zero rs) []) (getD (drop 1 ns) (nth (marked-row m) zero rs) [])) ≡ sourceOf Q (headOf (getD rs (nth (marked-row m) zero rs) []) (getD ns (suc (nth (marked-row m) zero rs)) []))
+    later [] = refl
+    later (n ∷ ns) = refl
+sources-nth m (suc k) (r ∷ rs) ns Q s₀ h =
+    split (marked-row m r)
+    (λ e.
+    let b : suc k < length (sourceOf Q (headOf r (getD ns 0 [])) ∷ sources-at m (heads rs (drop 1 ns)) Q) = rw e at h in
+    let g = sources-nth m k rs (drop 1 ns) Q s₀ (omega arith) in
+    let q = g .0 in
+    rw e (omega arith, g .1 ∙ later (nth (marked-row m) k rs) ns))
+    (λ e. let g = sources-nth m (suc k) rs (drop 1 ns) Q s₀ (rw e at h) in let q = g .0 in rw e (omega arith, g .1 ∙ later (nth (marked-row m) (suc k) rs) ns))
+  where
+    later : (i : ℕ) (ns : List (List ℕ)) → sourceOf Q (headOf (getD rs i []) (getD (drop 1 ns) i [])) ≡ sourceOf Q (headOf (getD rs i []) (getD ns (suc i) []))
+    later i [] = refl
+    later i (n ∷ ns) = refl
+
+-- ── the pages of an owner ──
+pub pages-count : (m : ℕ) (c : Cid) (rs : List (List ℕ)) (us : List ℕ) → length (pages-at m (leaves rs us) c) ≡ length (keep (owned m c) rs)
+unfolding pages-at leaves keep
+pages-count m c [] us = refl
+pages-count m c (r ∷ rs) us =
+    let e = pages-count m c rs (drop (amount r) us) in
+    split (owned m c r) (λ h. rw h (ap suc e)) (λ h. rw h e)
+
+-- the k-th page of an owner is that of the k-th row: its number, and the universes from where those of the rows before it end
+pub pages-nth : (m : ℕ) (c : Cid) (k : ℕ) (rs : List (List ℕ)) (us : List ℕ) (p₀ : Page) → k < length (pages-at m (leaves rs us) c)
+    → (nth (owned m c) k rs < length rs)
+    × (getD (pages-at m (leaves rs us) c) k p₀ ≡ leafAt (getD rs (nth (owned m c) k rs) []) (drop (total (take (nth (owned m c) k rs) rs)) us) .page)
+unfolding pages-at leaves keep nth total
+pages-nth m c k [] us p₀ h = absurd (omega arith)
+pages-nth m c zero (r ∷ rs) us p₀ h =
+    split (owned m c r)
+    (λ e. rw e (omega arith, refl))
+    (λ e.
+    let g = pages-nth m c zero rs (drop (amount r) us) p₀ (rw e at h) in
+    let q = g .0 in
+    rw e (omega arith, g .1 ∙ ap (λ (v : List ℕ). leafAt (getD rs (nth (owned m c) zero rs) []) v .page) (drop-drop (total (take (nth (owned m c) zero rs) rs)) (amount r) us)))
+pages-nth m c (suc k) (r ∷ rs) us p₀ h =
+    split (owned m c r)
+    (λ e.
+    let b : suc k < suc (length (pages-at m (leaves rs (drop (amount r) us)) c)) = rw e at h in
+    let g = pages-nth m c k rs (drop (amount r) us) p₀ (omega arith) in
+    let q = g .0 in
+    rw e (omega arith, g .1 ∙ ap (λ (v : List ℕ). leafAt (getD rs (nth (owned m c) k rs) []) v .page) (drop-drop (total (take (nth (owned m c) k rs) rs)) (amount r) us)))
+    (λ e.
+    let g = pages-nth m c (suc k) rs (drop (amount r) us) p₀ (rw e at h) in
+    let q = g .0 in
+    rw e (omega arith, g .1 ∙ ap (λ (v : List ℕ). leafAt (getD rs (nth (owned m c) (suc k) rs) []) v .page) (drop-drop (total (take (nth (owned m c) (suc k) rs) rs)) (amount r) us)))
+
+-- ── read out of the state ──
+module _ (d : Discovery) (S : List (List ℕ)) where
+  pub partial-total : (N P : List (List ℕ)) (U : List ℕ) → length (discoveredOf d S N P U .partial) ≡ length (keep (marked-row 0) (take (d .«source_count») S))
+  unfolding discoveredOf viewOf headsOf
+  partial-total N P U = sources-count 0 (take (d .«source_count») S) (take (d .«source_count») N) (pages-at 0 (leavesOf d P U))
+
+  pub listed-total : (N P : List (List ℕ)) (U : List ℕ) → length (discoveredOf d S N P U .listed) ≡ length (keep (marked-row 1) (take (d .«source_count») S))
+  unfolding discoveredOf viewOf headsOf
+  listed-total N P U = sources-count 1 (take (d .«source_count») S) (take (d .«source_count») N) (pages-at 1 (leavesOf d P U))
+
+-- the source of a row, with its pages
+unfoldable pub source-of-row : ℕ → Discovery → List (List ℕ) → List (List ℕ) → List (List ℕ) → List ℕ → ℕ → Source
+source-of-row m d S N P U r = sourceOf (pages-at m (leavesOf d P U)) (headOf (getD S r []) (getD N r []))
+
+-- the page of a row: its number, and its universes from where those of the rows before it end
+unfoldable pub page-of-row : List (List ℕ) → List ℕ → ℕ → Page
+page-of-row P U r = record { number = getD (getD P r []) 3 0; universes = take (getD (getD P r []) 4 0) (drop (total (take r P)) U) }
+
+module _ (m : ℕ) (d : Discovery) (S N P : List (List ℕ)) (U : List ℕ) (k : ℕ) (s₀ : Source) (few : d .«source_count» ≤ 64) (rows : length S ≡ 64) where
+  pub source-placed : k < length (sources-at m (headsOf d S N) (pages-at m (leavesOf d P U)))
+      → (nth (marked-row m) k (take (d .«source_count») S) < d .«source_count»)
+      × (getD (sources-at m (headsOf d S N) (pages-at m (leavesOf d P U))) k s₀ ≡ source-of-row m d S N P U (nth (marked-row m) k (take (d .«source_count») S)))
+  unfolding headsOf source-of-row
+  source-placed h =
+      let n = d .«source_count» in
+      let Q = pages-at m (leavesOf d P U) in
+      let g = sources-nth m k (take n S) (take n N) Q s₀ h in
+      let r = nth (marked-row m) k (take n S) in
+      let b : r < length (take n S) = g .0 in
+      let i : r < n = omega (arith, length-take n S) in (
+        i,
+        g .1
+            ∙ ap (λ (x : List ℕ). sourceOf Q (headOf x (getD (take n N) r []))) (getD-take n S r [] i)
+            ∙ ap (λ (x : List ℕ). sourceOf Q (headOf (getD S r []) x)) (getD-take n N r [] i),
+      )
+
+  pub source-at-place : (r : ℕ) → r ≡ nth (marked-row m) k (take (d .«source_count») S) → k < length (sources-at m (headsOf d S N) (pages-at m (leavesOf d P U)))
+      → (r < d .«source_count») × (getD (sources-at m (headsOf d S N) (pages-at m (leavesOf d P U))) k s₀ ≡ source-of-row m d S N P U r)
+  source-at-place r e h = rw e (source-placed h)
+
+module _ (m : ℕ) (c : Cid) (d : Discovery) (P : List (List ℕ)) (U : List ℕ) (k : ℕ) (p₀ : Page) (few : d .«page_count» ≤ 64) (rows : length P ≡ 64) where
+  pub page-placed : k < length (pages-at m (leavesOf d P U) c)
+      → (nth (owned m c) k (take (d .«page_count») P) < d .«page_count»)
+      × (getD (pages-at m (leavesOf d P U) c) k p₀ ≡ page-of-row P U (nth (owned m c) k (take (d .«page_count») P)))
+  unfolding leavesOf page-of-row
+  page-placed h =
+      let n = d .«page_count» in
+      let g = pages-nth m c k (take n P) U p₀ h in
+      let r = nth (owned m c) k (take n P) in
+      let b : r < length (take n P) = g .0 in
+      let i : r < n = omega (arith, length-take n P) in
+      let j : r ≤ n = omega arith in (
+        i,
+        g .1
+            ∙ ap (λ (x : List ℕ). leafAt x (drop (total (take r (take n P))) U) .page) (getD-take n P r [] i)
+            ∙ ap (λ (x : List (List ℕ)). leafAt (getD P r []) (drop (total x) U) .page) (take-take r n P j),
+      )
+
+  pub page-at-place : (r : ℕ) → r ≡ nth (owned m c) k (take (d .«page_count») P) → k < length (pages-at m (leavesOf d P U) c)
+      → (r < d .«page_count») × (getD (pages-at m (leavesOf d P U) c) k p₀ ≡ page-of-row P U r)
+  page-at-place r e h = rw e (page-placed h)
+
+pub page-number : (m : ℕ) (c : Cid) (d : Discovery) (P : List (List ℕ)) (U : List ℕ) → length (pages-at m (leavesOf d P U) c) ≡ length (keep (owned m c) (take (d .«page_count») P))
+unfolding leavesOf
+page-number m c d P U = pages-count m c (take (d .«page_count») P) U

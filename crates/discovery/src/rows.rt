@@ -1,0 +1,319 @@
+// The rows of sources and pages: whose they are, and rows found, put in, taken out and turned.
+ghost use mathlib.Core.Path.{_≡_};
+ghost use mathlib.Core.Bool.{not};
+ghost use mathlib.Core.List.{[], _∷_, _++_, map};
+ghost use Prim.Native.Nat.{suc, _+_, _-_, _≤_, _<_};
+ghost use lib.ListN.{length, take, getD};
+ghost use Rattle.table.specs.Place.{prefix, insertAt, removeAt};
+ghost use Rattle.discovery.specs.Store.{owner};
+ghost use Rattle.discovery.specs.Calls.{listed-row};
+ghost use Rattle.discovery.specs.Reads.{nth, marked-row};
+ghost use Rattle.discovery.specs.Sweep.{old-row};
+ghost use Rattle.table.specs.Table.{keep};
+ghost use Rattle.discovery.specs.Rows.{owned, larger, total, Few, in-turn, turned-row};
+use rules::Cid;
+use rules::has_aged;
+
+// The owner is this one.
+pub fn is_owner(mark: u64, cid: Cid, kind: u64, source: Cid) -> bool
+    ensures { λ r. ⌜ r ≡ owner kind source mark cid ⌝ }
+{
+    if mark != kind {
+        return false;
+    }
+    cid.is_same(source)
+}
+
+pub fn is_source_of(row: [u64; 6], mark: u64, cid: Cid) -> bool
+    ensures { λ r. ⌜ r ≡ owned mark cid row ⌝ }
+{
+    let own = Cid {
+        hi: row[1],
+        lo: row[2],
+    };
+    is_owner(row[0], own, mark, cid)
+}
+
+pub fn is_page_of(row: [u64; 5], mark: u64, cid: Cid) -> bool
+    ensures { λ r. ⌜ r ≡ owned mark cid row ⌝ }
+{
+    let own = Cid {
+        hi: row[1],
+        lo: row[2],
+    };
+    is_owner(row[0], own, mark, cid)
+}
+
+// Where the source stands; count if nowhere.
+pub fn find_source(sources: &[[u64; 6]; 64], count: usize, mark: u64, cid: Cid) -> usize
+    requires { ⌜ (count ≤ 64) × (length (now sources) ≡ 64) ⌝ }
+    ensures { λ r. ⌜ r ≡ prefix (λ row. not (owned mark cid row)) (take count (now (sources .entry))) ⌝ }
+{
+    let mut i = 0;
+    while i < count {
+        let row = sources[i];
+        if is_source_of(row, mark, cid) {
+            return i;
+        }
+        i += 1;
+    }
+    i
+}
+
+// Where the first source of this age stands; count if there is none.
+pub fn find_expired(sources: &[[u64; 6]; 64], count: usize, time: u64, reading: u64) -> usize
+    requires { ⌜ (count ≤ 64) × (length (now sources) ≡ 64) ⌝ }
+    ensures { λ r. ⌜ r ≡ prefix (λ row. not (old-row time reading row)) (take count (now (sources .entry))) ⌝ }
+{
+    let mut i = 0;
+    while i < count {
+        let row = sources[i];
+        if has_aged(time, reading, row[4]) {
+            return i;
+        }
+        i += 1;
+    }
+    i
+}
+
+// The row at place at taken out of the first count.
+pub fn remove_source(sources: &mut [[u64; 6]; 64], count: usize, at: usize)
+    requires { ⌜ (count ≤ 64) × (at < count) × (length (now sources) ≡ 64) ⌝ }
+    ensures { λ r. ⌜ (length (now (sources .exit)) ≡ 64) × (take (count - 1) (now (sources .exit)) ≡ removeAt at (take count (now (sources .entry)))) ⌝ }
+{
+    let last = count - 1;
+    let mut to = at;
+    while to < last {
+        let row = sources[to + 1];
+        sources[to] = row;
+        to += 1;
+    }
+}
+
+pub fn remove_name(names: &mut [[u8; 63]; 64], count: usize, at: usize)
+    requires { ⌜ (count ≤ 64) × (at < count) × (length (now names) ≡ 64) ⌝ }
+    ensures { λ r. ⌜ (length (now (names .exit)) ≡ 64) × (take (count - 1) (now (names .exit)) ≡ removeAt at (take count (now (names .entry)))) ⌝ }
+{
+    let last = count - 1;
+    let mut to = at;
+    while to < last {
+        let row = names[to + 1];
+        names[to] = row;
+        to += 1;
+    }
+}
+
+// A partial source's row moved to the end as a listed one's, with its name.
+pub fn turn_source(
+    sources: &mut [[u64; 6]; 64],
+    names: &mut [[u8; 63]; 64],
+    count: usize,
+    at: usize,
+)
+    requires { ⌜ (count ≤ 64) × (at < count) × (length (now sources) ≡ 64) × (length (now names) ≡ 64) ⌝ }
+    ensures { λ r. ⌜ (length (now (sources .exit)) ≡ 64) × (length (now (names .exit)) ≡ 64) × (take count (now (sources .exit)) ≡ removeAt at (take count (now (sources .entry))) ++ listed-row (getD (now (sources .entry)) at []) ∷ []) × (take count (now (names .exit)) ≡ removeAt at (take count (now (names .entry))) ++ getD (now (names .entry)) at [] ∷ []) ⌝ }
+{
+    let row = sources[at];
+    let name = names[at];
+    remove_source(&mut *sources, count, at);
+    remove_name(&mut *names, count, at);
+    let last = count - 1;
+    let turned = [1, row[1], row[2], row[3], row[4], row[5]];
+    sources[last] = turned;
+    names[last] = name;
+}
+
+// A name's bytes in a row of names.
+pub fn name_row(name: &[u8]) -> [u8; 63]
+    requires { ⌜ length (now name) ≤ 63 ⌝ }
+    ensures { λ r. ⌜ take (length (now (name .entry))) r ≡ now (name .entry) ⌝ }
+{
+    let mut row = [0; 63];
+    let mut i = 0;
+    while i < name.len() {
+        row[i] = name[i];
+        i += 1;
+    }
+    row
+}
+
+fn is_larger(row: [u64; 5], cid: Cid, number: u8) -> bool
+    ensures { λ r. ⌜ r ≡ larger cid number row ⌝ }
+{
+    if is_page_of(row, 0, cid) {
+        return (number as u64) < row[3];
+    }
+    false
+}
+
+// Where a partial source's new page goes: before its first page with a larger number.
+pub fn page_place(pages: &[[u64; 5]; 64], count: usize, cid: Cid, number: u8) -> usize
+    requires { ⌜ (count ≤ 64) × (length (now pages) ≡ 64) ⌝ }
+    ensures { λ r. ⌜ r ≡ prefix (λ row. not (larger cid number row)) (take count (now (pages .entry))) ⌝ }
+{
+    let mut i = 0;
+    while i < count {
+        let row = pages[i];
+        if is_larger(row, cid, number) {
+            return i;
+        }
+        i += 1;
+    }
+    i
+}
+
+// Where the universes of the page at place at begin.
+pub fn offset(pages: &[[u64; 5]; 64], at: usize) -> usize
+    requires { ⌜ (at ≤ 64) × (length (now pages) ≡ 64) × Few (take at (now pages)) ⌝ }
+    ensures { λ r. ⌜ r ≡ total (take at (now (pages .entry))) ⌝ }
+{
+    let mut sum: usize = 0;
+    let mut i = 0;
+    while i < at {
+        let row = pages[i];
+        sum += row[4] as usize;
+        i += 1;
+    }
+    sum
+}
+
+// One row more, before place at.
+pub fn insert_page(pages: &mut [[u64; 5]; 64], count: usize, at: usize, row: [u64; 5])
+    requires { ⌜ (count < 64) × (at ≤ count) × (length (now pages) ≡ 64) ⌝ }
+    ensures { λ r. ⌜ (length (now (pages .exit)) ≡ 64) × (take (count + 1) (now (pages .exit)) ≡ insertAt at row (take count (now (pages .entry)))) ⌝ }
+{
+    let mut carried = row;
+    let mut i = at;
+    while i < count {
+        let old = pages[i];
+        pages[i] = carried;
+        carried = old;
+        i += 1;
+    }
+    pages[count] = carried;
+}
+
+// A partial source's page rows become a listed one's.
+pub fn turn_pages(pages: &mut [[u64; 5]; 64], count: usize, cid: Cid)
+    requires { ⌜ (count ≤ 64) × (length (now pages) ≡ 64) ⌝ }
+    ensures { λ r. ⌜ (length (now (pages .exit)) ≡ 64) × (take count (now (pages .exit)) ≡ map (turned-row cid) (take count (now (pages .entry)))) ⌝ }
+{
+    let mut i = 0;
+    while i < count {
+        let row = pages[i];
+        if is_page_of(row, 0, cid) {
+            let turned = [1, row[1], row[2], row[3], row[4]];
+            pages[i] = turned;
+            i += 1;
+        } else {
+            i += 1;
+        }
+    }
+}
+
+// Places 0 to last page hold exactly those page numbers.
+pub fn has_all_pages(pages: &[[u64; 5]; 64], count: usize, cid: Cid, last_page: u64) -> bool
+    requires { ⌜ (count ≤ 64) × (length (now pages) ≡ 64) ⌝ }
+    ensures { λ r. ⌜ r ≡ in-turn cid 0 (suc «last_page») (take count (now (pages .entry))) ⌝ }
+{
+    let mut next: u64 = 0;
+    let mut i = 0;
+    while i < count {
+        if last_page < next {
+            return true;
+        }
+        let row = pages[i];
+        i += 1;
+        if is_page_of(row, 0, cid) {
+            if row[3] != next {
+                return false;
+            }
+            next += 1;
+        }
+    }
+    last_page < next
+}
+
+pub fn is_marked(row: [u64; 6], mark: u64) -> bool
+    ensures { λ r. ⌜ r ≡ marked-row mark row ⌝ }
+{
+    row[0] == mark
+}
+
+// How many sources have the mark.
+pub fn count_sources(sources: &[[u64; 6]; 64], count: usize, mark: u64) -> usize
+    requires { ⌜ (count ≤ 64) × (length (now sources) ≡ 64) ⌝ }
+    ensures { λ r. ⌜ r ≡ length (keep (marked-row mark) (take count (now (sources .entry)))) ⌝ }
+{
+    let mut n: usize = 0;
+    let mut i = 0;
+    while i < count {
+        let row = sources[i];
+        i += 1;
+        if is_marked(row, mark) {
+            n += 1;
+        }
+    }
+    n
+}
+
+// Where the k-th source of the mark stands, from 0; count if there are not so many.
+pub fn nth_source(sources: &[[u64; 6]; 64], count: usize, mark: u64, k: usize) -> usize
+    requires { ⌜ (count ≤ 64) × (length (now sources) ≡ 64) ⌝ }
+    ensures { λ r. ⌜ r ≡ nth (marked-row mark) k (take count (now (sources .entry))) ⌝ }
+{
+    let mut left = k;
+    let mut i = 0;
+    while i < count {
+        let row = sources[i];
+        if is_marked(row, mark) {
+            if left == 0 {
+                return i;
+            }
+            left -= 1;
+            i += 1;
+        } else {
+            i += 1;
+        }
+    }
+    i
+}
+
+// How many pages the owner has.
+pub fn count_pages(pages: &[[u64; 5]; 64], count: usize, mark: u64, cid: Cid) -> usize
+    requires { ⌜ (count ≤ 64) × (length (now pages) ≡ 64) ⌝ }
+    ensures { λ r. ⌜ r ≡ length (keep (owned mark cid) (take count (now (pages .entry)))) ⌝ }
+{
+    let mut n: usize = 0;
+    let mut i = 0;
+    while i < count {
+        let row = pages[i];
+        i += 1;
+        if is_page_of(row, mark, cid) {
+            n += 1;
+        }
+    }
+    n
+}
+
+// Where the owner's k-th page stands, from 0; count if there are not so many.
+pub fn nth_page(pages: &[[u64; 5]; 64], count: usize, mark: u64, cid: Cid, k: usize) -> usize
+    requires { ⌜ (count ≤ 64) × (length (now pages) ≡ 64) ⌝ }
+    ensures { λ r. ⌜ r ≡ nth (owned mark cid) k (take count (now (pages .entry))) ⌝ }
+{
+    let mut left = k;
+    let mut i = 0;
+    while i < count {
+        let row = pages[i];
+        if is_page_of(row, mark, cid) {
+            if left == 0 {
+                return i;
+            }
+            left -= 1;
+            i += 1;
+        } else {
+            i += 1;
+        }
+    }
+    i
+}

@@ -1,0 +1,14 @@
+-- The walk of `Stored.antt`, with the setter by value.
+-- Assumes nothing.
+use mathlib.Core.Path.{refl}
+use Rattle.settings.specs.Settings.{withMerge}
+use Rattle.settings.proofs.Stored.{choice, stored}
+use Rattle.settings.proofs.Settings.set_merge.Symbol as by-value
+use Rattle.settings.proofs.Settings.set_merge.Met.{met}
+use Rattle.settings.proofs.lent.set_merge.Key.{name}
+use Rattle.settings.proofs.lent.set_merge.Statement.{statement}
+use Rattle.settings.proofs.lent.set_merge.Code as code
+
+pub set-merge-spec : {M : Type 1} → statement M
+unfolding code.routine
+set-merge-spec = stored choice by-value.name withMerge name code.env by-value.routine refl code.unfolded met
