@@ -7,7 +7,7 @@ use mathlib.Core.Logic.{_≢_}
 use mathlib.Core.Option.{Option, none, some}
 use Prim.Native.Nat.{ℕ, _+_}
 use native.Mathlib.Omega.{arith}
-use Rattle.table.specs.Cases.{split, found}
+use Rattle.table.specs.Cases.{split, found, clash}
 use native.Mathlib.Nat.{zero-add}
 use lib.Dec.{eqb, ltb}
 use lib.ListN.{length, drop}
@@ -17,12 +17,12 @@ use Rattle.settings.specs.declared.Settings.{Settings}
 use Rattle.merge.specs.declared.DmxData.{DmxData}
 use Rattle.merge.specs.Merge.{Dmx}
 use Rattle.waiting.specs.declared.StoreAnswer.{StoreAnswer}
-use Rattle.waiting.specs.Waiting.{cleared}
+use Rattle.waiting.specs.Waiting.{cleared, left}
 use Rattle.waiting.specs.Waiting as waiting
 use Rattle.waiting.specs.Records.{encode, records, over}
 use Rattle.waiting.specs.Entries.{waitingOf, lent-none}
 use Rattle.waiting.specs.Entries as entries
-use Rattle.waiting.specs.Written.{Laid}
+use Rattle.waiting.specs.Written.{Laid, Writing}
 use Rattle.waiting.specs.Calls.{Yields, StoredCall}
 use Rattle.listening.specs.declared.Listened.{Listened}
 use Rattle.listening.specs.declared.ListenDone.{ListenDone}
@@ -34,9 +34,13 @@ use Rattle.model.specs.declared.ListenAnswer.{ListenAnswer}
 use Rattle.model.specs.declared.ListenAnswer.the-variants as listen
 use Rattle.model.specs.Packet as model
 use Rattle.model.specs.State.{State}
-use Rattle.model.specs.Step.{Outcome, outcome, illegal, joined-by, most-listened, with-waiting, with-listened, dmx, listen-all, heard, stored, kept, synchronised, unsynchronised, accepted, release}
+use Rattle.model.specs.Step.{Outcome, outcome, illegal, joined-by, most-listened, with-waiting, with-listened, dmx, listen-all, heard, stored, kept, synchronised, unsynchronised, accepted, release, with-data, with-sync, if-accepted, stopped, data-arrival, sync-arrival, synchronise, data-pair, sync-pair, poll, poll-sync, poll-waiting}
 use Rattle.steps.specs.declared.DataPacket.{DataPacket}
-use Rattle.steps.specs.View.{Rows, packetOf, dataOf, Lent, lentOf, waits, hears, Releases, Ready, Holds, Accepts}
+use Rattle.pairs.specs.declared.Checked.{Checked}
+use Rattle.pairs.specs.declared.Checked.the-variants as checked
+use Rattle.pairs.specs.Table.{Table, check}
+use Rattle.pairs.specs.View as counted
+use Rattle.steps.specs.View.{Rows, packetOf, dataOf, Lent, lentOf, waits, hears, Releases, Ready, Holds, Accepts, Counted, rowsOf, counts, Kept-counted, taken, releaseSaid, Arrives, Synchronises, Polls}
 
 -- one record
 one-record : (d : Dmx) → records (d ∷ []) ≡ encode d
@@ -158,3 +162,115 @@ module _ (S : Settings) (now : ℕ) (d : model.DataPacket) (m : Lent) (out : Lis
     written = r .written;
     ready = record { kept-waiting = r .yields .kept; lent-waiting = r .yields .lent; kept-listened = k };
   }
+
+-- ── arrivals ──
+stays : (a : Checked) (go stay : Outcome) → taken a ≡ false → if-accepted a go stay ≡ stay
+unfolding if-accepted
+stays checked.Accepted go stay e = clash refl e
+stays (checked.UniverseTimeout c u) go stay e = refl
+stays (checked.SourcesExceeded n) go stay e = refl
+stays (checked.OutOfSequence a l d) go stay e = refl
+stays checked.PairsFull go stay e = refl
+stays checked.SourceWithoutPairs go stay e = refl
+
+goes : (a : Checked) (go stay : Outcome) → taken a ≡ true → if-accepted a go stay ≡ go
+unfolding if-accepted
+goes checked.Accepted go stay e = refl
+goes (checked.UniverseTimeout c u) go stay e = clash e refl
+goes (checked.SourcesExceeded n) go stay e = clash e refl
+goes (checked.OutOfSequence a l d) go stay e = clash e refl
+goes checked.PairsFull go stay e = clash e refl
+goes checked.SourceWithoutPairs go stay e = clash e refl
+
+module _ (S : Settings) (now : ℕ) (d : model.DataPacket) (k k′ : Counted) (a : Checked)
+    (f : counted.Follows (k′ .table) (k′ .pairs) (k′ .sources) a (check (S .«source_limit») (S .«announce_timeout») (data-pair now d) (counts k))) where
+  -- the arrival at any state with this table
+  data-said : (s : State) → s .data-pairs ≡ counts k
+      → data-arrival S now d s ≡ if-accepted a (accepted S now d (with-data (counts k′) s)) (outcome (with-data (counts k′) s) (stopped a))
+  unfolding data-arrival
+  data-said s e =
+      let x = ap (check (S .«source_limit») (S .«announce_timeout») (data-pair now d)) e in
+      let t : check (S .«source_limit») (S .«announce_timeout») (data-pair now d) (s .data-pairs) .0 ≡ counts k′ = ap (λ (y : Table × Checked). y .0) x ∙ sym (f .table-is) in
+      let b : check (S .«source_limit») (S .«announce_timeout») (data-pair now d) (s .data-pairs) .1 ≡ a = ap (λ (y : Table × Checked). y .1) x ∙ sym (f .answer-is) in
+      λ i. if-accepted (b i) (accepted S now d (with-data (t i) s)) (outcome (with-data (t i) s) (stopped (b i)))
+
+  pub arrives-accepted : (m m′ : Lent) (out out′ : List ℕ) (w : StepAnswer) → taken a ≡ true → Accepts S now d m out m′ out′ w
+      → Arrives S now d k m out k′ m′ out′ w
+  arrives-accepted m m′ out out′ w e c = record {
+    released = c .released;
+    outcome-is = λ s p q r. data-said s p ∙ goes a _ _ e ∙ c .outcome-is (with-data (counts k′) s) q r;
+    written = c .written;
+    kept = f .kept;
+    ready = c .ready;
+  }
+
+  pub arrives-stopped : (m : Lent) (out : List ℕ) → taken a ≡ false → entries.Kept (m .count) (m .rows) (m .store) → listening.Kept (m .listened) (m .heard)
+      → Arrives S now d k m out k′ m out (stopped a)
+  unfolding records
+  arrives-stopped m out e kw kl = record {
+    released = [];
+    outcome-is = λ s p q r.
+        data-said s p ∙ stays a _ _ e
+        ∙ (λ i. outcome (record { data-pairs = counts k′; sync-pairs = s .sync-pairs; waiting = q i; listened = r i; discovered = s .discovered }) (stopped a));
+    written = refl;
+    kept = f .kept;
+    ready = record { kept-waiting = kw; lent-waiting = lent-none (m .rows) (m .store); kept-listened = kl };
+  }
+
+-- ── synchronisation ──
+release-said : (ds : List Dmx) (s : State) (n b : ℕ) → n ≡ length ds → b ≡ length (records ds)
+    → release ds s ≡ record { state = s; answer = releaseSaid n b; released = ds }
+unfolding release
+release-said [] s n b p q = λ i. record { state = s; answer = releaseSaid (sym p i) b; released = [] }
+release-said (x ∷ ds) s n b p q =
+    let e : _≡_ {A = StepAnswer} (says.Released (length (x ∷ ds)) (length (records (x ∷ ds)))) (releaseSaid n b) =
+        (λ i. says.Released (sym p i) (sym q i)) ∙ sym (rw (ne-eqb n 0 (omega arith))) in
+    λ i. record { state = s; answer = e i; released = x ∷ ds }
+
+module _ (S : Settings) (now : ℕ) (y : model.SyncPacket) (k k′ : Counted) (a : Checked)
+    (f : counted.Follows (k′ .table) (k′ .pairs) (k′ .sources) a (check (S .«source_limit») (S .«announce_timeout») (sync-pair now y) (counts k))) where
+  sync-said : (s : State) → s .sync-pairs ≡ counts k
+      → sync-arrival S now y s ≡ if-accepted a (synchronise now (y .address) (with-sync (counts k′) s)) (outcome (with-sync (counts k′) s) (stopped a))
+  unfolding sync-arrival
+  sync-said s e =
+      let x = ap (check (S .«source_limit») (S .«announce_timeout») (sync-pair now y)) e in
+      let t : check (S .«source_limit») (S .«announce_timeout») (sync-pair now y) (s .sync-pairs) .0 ≡ counts k′ = ap (λ (z : Table × Checked). z .0) x ∙ sym (f .table-is) in
+      let b : check (S .«source_limit») (S .«announce_timeout») (sync-pair now y) (s .sync-pairs) .1 ≡ a = ap (λ (z : Table × Checked). z .1) x ∙ sym (f .answer-is) in
+      λ i. if-accepted (b i) (synchronise now (y .address) (with-sync (t i) s)) (outcome (with-sync (t i) s) (stopped (b i)))
+
+  module _ (n : ℕ) (rows : Rows) (store out : List ℕ) where
+    taken-out : (n′ : ℕ) (rows′ : Rows) (store′ : List ℕ) (c b : ℕ) → left (y .address) (waitingOf n rows store) ≡ waitingOf n′ rows′ store′
+        → c ≡ length (waiting.released now (y .address) (waitingOf n rows store)) → b ≡ length (records (waiting.released now (y .address) (waitingOf n rows store)))
+        → (s : State) → s .waiting ≡ waitingOf n rows store
+        → synchronise now (y .address) s ≡ record { state = with-waiting (waitingOf n′ rows′ store′) s; answer = releaseSaid c b; released = waiting.released now (y .address) (waitingOf n rows store) }
+    unfolding synchronise
+    taken-out n′ rows′ store′ c b v p q s e =
+        (λ i. release (waiting.released now (y .address) (e i)) (with-waiting (left (y .address) (e i)) s))
+        ∙ release-said (waiting.released now (y .address) (waitingOf n rows store)) (with-waiting (left (y .address) (waitingOf n rows store)) s) c b p q
+        ∙ (λ i. record { state = with-waiting (v i) s; answer = releaseSaid c b; released = waiting.released now (y .address) (waitingOf n rows store) })
+
+    pub synchronises : (n′ : ℕ) (rows′ : Rows) (store′ out′ : List ℕ) (c b : ℕ) → taken a ≡ true
+        → Yields rows store rows′ store′ n′ (left (y .address) (waitingOf n rows store))
+        → Writing (waiting.released now (y .address) (waitingOf n rows store)) out out′ c b
+        → Synchronises S now y k n rows store out k′ n′ rows′ store′ out′ (releaseSaid c b)
+    synchronises n′ rows′ store′ out′ c b e v w = record {
+      released = waiting.released now (y .address) (waitingOf n rows store);
+      outcome-is = λ s p q. sync-said s p ∙ goes a _ _ e ∙ taken-out n′ rows′ store′ c b (sym (v .view)) (w .record-count) (w .byte-count) (with-sync (counts k′) s) q;
+      written = w .written;
+      kept = f .kept;
+      kept-waiting = v .kept;
+      lent-waiting = v .lent;
+    }
+
+    pub synchronises-stopped : taken a ≡ false → entries.Kept n rows store → Synchronises S now y k n rows store out k′ n rows store out (stopped a)
+    unfolding records
+    synchronises-stopped e kw = record {
+      released = [];
+      outcome-is = λ s p q.
+          sync-said s p ∙ stays a _ _ e
+          ∙ (λ i. outcome (record { data-pairs = s .data-pairs; sync-pairs = counts k′; waiting = q i; listened = s .listened; discovered = s .discovered }) (stopped a));
+      written = refl;
+      kept = f .kept;
+      kept-waiting = kw;
+      lent-waiting = lent-none rows store;
+    }
