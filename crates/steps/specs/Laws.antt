@@ -23,7 +23,7 @@ use Rattle.waiting.specs.Records.{encode, records, over}
 use Rattle.waiting.specs.Entries.{waitingOf, lent-none}
 use Rattle.waiting.specs.Entries as entries
 use Rattle.waiting.specs.Written.{Laid, Writing}
-use Rattle.waiting.specs.Calls.{Yields, StoredCall}
+use Rattle.waiting.specs.Calls.{Yields, StoredCall, SweptCall}
 use Rattle.listening.specs.declared.Listened.{Listened}
 use Rattle.listening.specs.declared.ListenDone.{ListenDone}
 use Rattle.listening.specs.View.{listenedOf, Listens}
@@ -38,7 +38,14 @@ use Rattle.model.specs.Step.{Outcome, outcome, illegal, joined-by, most-listene
 use Rattle.steps.specs.declared.DataPacket.{DataPacket}
 use Rattle.pairs.specs.declared.Checked.{Checked}
 use Rattle.pairs.specs.declared.Checked.the-variants as checked
-use Rattle.pairs.specs.Table.{Table, check}
+use Rattle.pairs.specs.Table.{Table, Key, key, check, sweep}
+use Rattle.rules.specs.declared.Cid.{Cid}
+use Rattle.pairs.specs.declared.SweepAnswer.{SweepAnswer}
+use Rattle.pairs.specs.declared.SweepAnswer.the-variants.{Quiet, TimedOut}
+use Rattle.sequences.specs.declared.SequenceNumbering.{SequenceNumbering}
+use Rattle.sequences.specs.View as numbered
+use Rattle.sequences.specs.Laws.{answer-some, answer-none}
+use Rattle.sequences.specs.Sequences.{Numbers, numbers, timeouts, timeouts-data, timeouts-sync}
 use Rattle.pairs.specs.View as counted
 use Rattle.steps.specs.View.{Rows, packetOf, dataOf, Lent, lentOf, waits, hears, Releases, Ready, Holds, Accepts, Counted, rowsOf, counts, Kept-counted, taken, releaseSaid, Arrives, Synchronises, Polls}
 
@@ -224,7 +231,7 @@ unfolding release
 release-said [] s n b p q = λ i. record { state = s; answer = releaseSaid (sym p i) b; released = [] }
 release-said (x ∷ ds) s n b p q =
     let e : _≡_ {A = StepAnswer} (says.Released (length (x ∷ ds)) (length (records (x ∷ ds)))) (releaseSaid n b) =
-        (λ i. says.Released (sym p i) (sym q i)) ∙ sym (rw (ne-eqb n 0 (omega arith))) in
+    (λ i. says.Released (sym p i) (sym q i)) ∙ sym (rw (ne-eqb n 0 (omega arith))) in
     λ i. record { state = s; answer = e i; released = x ∷ ds }
 
 module _ (S : Settings) (now : ℕ) (y : model.SyncPacket) (k k′ : Counted) (a : Checked)
@@ -274,3 +281,61 @@ module _ (S : Settings) (now : ℕ) (y : model.SyncPacket) (k k′ : Counted) (a
       kept-waiting = kw;
       lent-waiting = lent-none rows store;
     }
+
+-- ── the poll ──
+-- what follows the timeouts of both tables
+spread : ℕ → State → Numbers × Option Key → State × Option Key
+spread now s (n, some k) = (with-data (n .data-table) (with-sync (n .sync-table) s), some k)
+spread now s (n, none) = poll-waiting now (with-data (n .data-table) (with-sync (n .sync-table) s))
+
+poll-spread : (S : Settings) (now : ℕ) (s : State) → poll S now s ≡ spread now s (timeouts (S .«announce_timeout») now (numbers (s .data-pairs) (s .sync-pairs)))
+poll-spread S now s = by-data (sweep (S .«announce_timeout») now (s .data-pairs)) refl
+  where
+    by-sync : (d : Table) (r : Table × Option Key) → sweep (S .«announce_timeout») now (s .sync-pairs) ≡ r
+        → poll-sync S now (with-data d s) ≡ spread now s (timeouts-sync d r)
+    by-sync d (y, some k) e = unfold poll-sync spread timeouts-sync in (rw (e, poll-sync) (ap (λ (r : Table × Option Key). (with-sync (r .0) (with-data d s), some k)) e))
+    by-sync d (y, none) e = unfold poll-sync spread timeouts-sync in (rw (e, poll-sync) (ap (λ (r : Table × Option Key). poll-waiting now (with-sync (r .0) (with-data d s))) e))
+
+    by-data : (r : Table × Option Key) → sweep (S .«announce_timeout») now (s .data-pairs) ≡ r
+        → poll S now s ≡ spread now s (timeouts (S .«announce_timeout») now (numbers (s .data-pairs) (s .sync-pairs)))
+    by-data (d, some k) e = unfold poll spread timeouts timeouts-data in (rw (e, poll) (ap (λ (r : Table × Option Key). (with-data (r .0) s, some k)) e))
+    by-data (d, none) e = unfold poll timeouts timeouts-data in (rw (e, poll) (ap (λ (r : Table × Option Key). poll-sync S now (with-data (r .0) s)) e ∙ by-sync d (sweep (S .«announce_timeout») now (s .sync-pairs)) refl))
+
+module _ (S : Settings) (now : ℕ) (q : SequenceNumbering) (m : numbered.Lent) (n : ℕ) (rows : Rows) (store : List ℕ)
+    (q′ : SequenceNumbering) (m′ : numbered.Lent) (a : SweepAnswer)
+    (f : numbered.Follows q′ m′ a (numbered.answered (timeouts (S .«announce_timeout») now (numbered.numbersOf q m)))) where
+  -- the timeouts, with their note
+  checked-by : (o : Option Key) → timeouts (S .«announce_timeout») now (numbered.numbersOf q m) .1 ≡ o → (s : State)
+      → s .data-pairs ≡ numbered.dataOf q m → s .sync-pairs ≡ numbered.syncOf q m → poll S now s ≡ spread now s (numbered.numbersOf q′ m′, o)
+  checked-by o e s x y =
+      poll-spread S now s
+      ∙ (λ i. spread now s (timeouts (S .«announce_timeout») now (numbers (x i) (y i))))
+      ∙ ap (spread now s) (λ i. (sym (f .numbers-are) i, e i))
+
+  pub polls-told : (c : Cid) (u : ℕ) → a ≡ TimedOut c u → entries.Kept n rows store
+      → Polls S now q m n rows store q′ m′ n rows store (TimedOut c u)
+  polls-told c u e kw =
+      let o = answer-some (timeouts (S .«announce_timeout») now (numbered.numbersOf q m) .1) c u (sym e ∙ f .answer-is) in
+      record {
+        timed-out = some (key c u);
+        answer-is = refl;
+        state-is = λ s x y z. checked-by (some (key c u)) o s x y
+            ∙ (unfold spread in (λ i. (record { data-pairs = numbered.dataOf q′ m′; sync-pairs = numbered.syncOf q′ m′; waiting = z i; listened = s .listened; discovered = s .discovered }, some (key c u))));
+        kept = f .kept;
+        kept-waiting = kw;
+        lent-waiting = lent-none rows store;
+      }
+
+  pub polls-quiet : (n′ : ℕ) (rows′ : Rows) (store′ : List ℕ) → a ≡ Quiet → SweptCall n rows store now rows′ store′ n′
+      → Polls S now q m n rows store q′ m′ n′ rows′ store′ Quiet
+  polls-quiet n′ rows′ store′ e c =
+      let o = answer-none (timeouts (S .«announce_timeout») now (numbered.numbersOf q m) .1) (sym e ∙ f .answer-is) in
+      record {
+        timed-out = none;
+        answer-is = refl;
+        state-is = λ s x y z. checked-by none o s x y
+            ∙ (unfold spread poll-waiting in (λ i. (record { data-pairs = numbered.dataOf q′ m′; sync-pairs = numbered.syncOf q′ m′; waiting = (ap (waiting.swept now) z ∙ sym (c .yields .view)) i; listened = s .listened; discovered = s .discovered }, none)));
+        kept = f .kept;
+        kept-waiting = c .yields .kept;
+        lent-waiting = c .yields .lent;
+      }

@@ -286,7 +286,18 @@ pub fn arrive_data(
     let next = a.table;
     let said = a.answer;
     if is_accepted(said) {
-        let r = accept_data(waiting, listened, rows, store, heard, settings, reading, packet, values, out);
+        let r = accept_data(
+            waiting,
+            listened,
+            rows,
+            store,
+            heard,
+            settings,
+            reading,
+            packet,
+            values,
+            out,
+        );
         let w = r.waiting;
         let l = r.listened;
         let answer = r.answer;
