@@ -20,7 +20,7 @@ use Rattle.sequences.specs.Sequences.{Numbers, numbers, timeouts, timeou
 use Rattle.sequences.specs.View.{Lent, lent, dataOf, syncOf, numbersOf, Kept, Follows, answered}
 
 -- ── the definition, by what the first sweep gave ──
-answer-some : (o : Option Key) (c : Cid) (u : ℕ) → TimedOut c u ≡ answerOf o → o ≡ some (key c u)
+pub answer-some : (o : Option Key) (c : Cid) (u : ℕ) → TimedOut c u ≡ answerOf o → o ≡ some (key c u)
 answer-some none c u e = let z : _≡_ {A = ℕ} 0 1 = cc in absurd (omega arith)
 answer-some (some k) c u e = ap {B = Option Key} some (λ i. record { cid = p i; universe = q i })
   where
@@ -30,7 +30,7 @@ answer-some (some k) c u e = ap {B = Option Key} some (λ i. record { cid = p i;
     q : k .universe ≡ u
     q = cc
 
-answer-none : (o : Option Key) → Quiet ≡ answerOf o → o ≡ none
+pub answer-none : (o : Option Key) → Quiet ≡ answerOf o → o ≡ none
 answer-none none e = refl
 answer-none (some k) e = let z : _≡_ {A = ℕ} 0 1 = cc in absurd (omega arith)
 

@@ -1,0 +1,86 @@
+-- The pair table decides: an accepted packet releases, a stopped one leaves all but the table.
+-- Assumes nothing.
+use mathlib.Core.Path.{sym, subst, _∙_}
+use Rattle.model.specs.declared.StepAnswer.{StepAnswer}
+use Rattle.steps.specs.View.{syncOf, rowsOf, Synchronises}
+use Rattle.steps.specs.Laws.{synchronises, synchronises-stopped}
+use borrow.Author.Needs.{needs}
+use Rattle.steps.proofs.arrive_sync.Statement.{statement}
+use Rattle.steps.proofs.arrive_sync.Tie as tie
+use Rattle.steps.proofs.arrive_sync.Reads as reads
+use Rattle.steps.proofs.arrive_sync.Lts as lts
+use Rattle.pairs.proofs.SyncTable.check_seq_number.Reads as check-seq-number-reads
+use Rattle.steps.proofs.is_accepted.Reads as is-accepted-reads
+use Rattle.steps.proofs.release_answer.Reads as release-answer-reads
+use Rattle.steps.proofs.stop_answer.Reads as stop-answer-reads
+use Rattle.waiting.proofs.Waiting.rtrv_waiting_data.Reads as rtrv-waiting-data-reads
+
+-- src/lib.rt:327:9
+check-seq-number-requires : tie.Need-check-seq-number-requires
+check-seq-number-requires c κs = search needs
+
+-- src/lib.rt:339:8
+is-accepted-requires : tie.Need-is-accepted-requires
+is-accepted-requires c κs = search needs
+
+-- src/lib.rt:340:13
+rtrv-waiting-data-requires : tie.Need-rtrv-waiting-data-requires
+rtrv-waiting-data-requires c κs = search needs
+
+-- src/lib.rt:342:13
+release-answer-requires : tie.Need-release-answer-requires
+release-answer-requires c κs = search needs
+
+-- src/lib.rt:343:9
+same-length : tie.Need-same-length
+same-length c = search needs
+
+-- src/lib.rt:343:9
+same-length-2 : tie.Need-same-length-2
+same-length-2 c = search needs
+
+-- src/lib.rt:343:9
+returns : tie.Need-returns
+returns c =
+    let r = c .before .before .before .before .before .before in
+    let t = c .before .before .before .before .before .before .before .before .before .before in
+    let i = c .before .before .before .before .before .before .before .before .before .before .before in
+    let k = c .before .before .before .before .before .before .before .before .before .before .before .before .before in
+    let v = c .before .before .before .before .before .before .before .before .before .before .before .before .before .before .before .before .before .before .before .args in
+    let a = rowsOf (v .sync .table) (v .pairs .now) (v .sources .now) in
+    let b = rowsOf (k .check-seq-number .result .table .table) (k .check-seq-number .last .1 .0) (k .check-seq-number .last .1 .1 .0) in
+    subst (λ (w : StepAnswer). Synchronises (v .settings) (v .reading) (syncOf (v .packet)) a (v .waiting .count) (v .rows .now) (v .store .now) (v .out .now) b (r .rtrv-waiting-data .result .waiting .count) (r .rtrv-waiting-data .last .1 .0) (r .rtrv-waiting-data .last .1 .1 .0) (r .rtrv-waiting-data .last .1 .1 .1 .1 .1 .0) w) (sym (c .release-answer .ensures))
+    (synchronises (v .settings) (v .reading) (syncOf (v .packet)) a b (k .check-seq-number .result .answer) (k .check-seq-number .ensures) (v .waiting .count) (v .rows .now) (v .store .now) (v .out .now)
+    (r .rtrv-waiting-data .result .waiting .count) (r .rtrv-waiting-data .last .1 .0) (r .rtrv-waiting-data .last .1 .1 .0) (r .rtrv-waiting-data .last .1 .1 .1 .1 .1 .0) (r .rtrv-waiting-data .result .records) (r .rtrv-waiting-data .result .bytes)
+    (sym (i .is-accepted .ensures) ∙ t .if1 .taken) (r .rtrv-waiting-data .ensures .0) (r .rtrv-waiting-data .ensures .1))
+
+-- src/lib.rt:349:9
+stop-answer-requires : tie.Need-stop-answer-requires
+stop-answer-requires c κs = search needs
+
+-- src/lib.rt:310:1
+returns-2 : tie.Need-returns-2
+returns-2 c =
+    let i = c .before .before in
+    let k = c .before .before .before .before in
+    let s = c .before .before .before .before .before .before .before .before .before .before in
+    let v = s .args in
+    let a = rowsOf (v .sync .table) (v .pairs .now) (v .sources .now) in
+    let b = rowsOf (k .check-seq-number .result .table .table) (k .check-seq-number .last .1 .0) (k .check-seq-number .last .1 .1 .0) in
+    subst (λ (w : StepAnswer). Synchronises (v .settings) (v .reading) (syncOf (v .packet)) a (v .waiting .count) (v .rows .now) (v .store .now) (v .out .now) b (v .waiting .count) (v .rows .now) (v .store .now) (v .out .now) w) (sym (c .stop-answer .ensures))
+    (synchronises-stopped (v .settings) (v .reading) (syncOf (v .packet)) a b (k .check-seq-number .result .answer) (k .check-seq-number .ensures) (v .waiting .count) (v .rows .now) (v .store .now) (v .out .now)
+    (sym (i .is-accepted .ensures) ∙ c .before .if1 .left) (s .pre .1))
+
+pub arrive-sync-spec : {M : Type 1} → statement M
+arrive-sync-spec =
+    tie.close
+    (tie.spec
+    check-seq-number-requires
+    is-accepted-requires
+    rtrv-waiting-data-requires
+    release-answer-requires
+    same-length
+    same-length-2
+    returns
+    stop-answer-requires
+    returns-2)

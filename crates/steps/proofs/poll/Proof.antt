@@ -1,0 +1,64 @@
+-- The tables' timeouts decide; without number 4 the waiting data is swept too.
+-- Assumes nothing.
+use Rattle.sequences.specs.View.{lent}
+use Rattle.steps.specs.Laws.{polls-quiet, polls-told}
+use borrow.Author.Needs.{needs}
+use Rattle.steps.proofs.poll.Statement.{statement}
+use Rattle.steps.proofs.poll.Tie as tie
+use Rattle.steps.proofs.poll.Reads as reads
+use Rattle.steps.proofs.poll.Lts as lts
+use Rattle.sequences.proofs.SequenceNumbering.check_timeouts.Reads as check-timeouts-reads
+use Rattle.waiting.proofs.Waiting.check_waiting_data_timeouts.Reads as check-waiting-data-timeouts-reads
+
+-- src/lib.rt:373:9
+check-timeouts-requires : tie.Need-check-timeouts-requires
+check-timeouts-requires c κs = search needs
+
+-- src/lib.rt:383:31
+enum-known-said : tie.Need-enum-known-said
+enum-known-said c = search needs
+
+-- src/lib.rt:384:53
+enum-told : tie.Need-enum-told
+enum-told c = search needs
+
+-- src/lib.rt:384:13
+check-waiting-data-timeouts-requires : tie.Need-check-waiting-data-timeouts-requires
+check-waiting-data-timeouts-requires c κs = search needs
+
+-- src/lib.rt:385:9
+same-length : tie.Need-same-length
+same-length c = search needs
+
+-- src/lib.rt:385:9
+returns : tie.Need-returns
+returns c =
+    let w = c .before .before in
+    let e = c .before .before .before .before .before in
+    let k = c .before .before .before .before .before .before .before .before in
+    let v = c .before .before .before .before .before .before .before .before .before .before .before .before .before .before .args in
+    polls-quiet (v .settings) (v .reading) (v .sequences) (lent (v .data-pairs .now) (v .data-sources .now) (v .sync-pairs .now) (v .sync-sources .now)) (v .waiting .count) (v .rows .now) (v .store .now)
+    (k .check-timeouts .result .sequences) (lent (k .check-timeouts .last .1 .0) (k .check-timeouts .last .1 .1 .0) (k .check-timeouts .last .1 .1 .1 .0) (k .check-timeouts .last .1 .1 .1 .1 .0)) (k .check-timeouts .result .answer) (k .check-timeouts .ensures)
+    (w .check-waiting-data-timeouts .result .count) (w .check-waiting-data-timeouts .last .1 .0) (w .check-waiting-data-timeouts .last .1 .1 .0) (e .enum-told .given .1) (w .check-waiting-data-timeouts .ensures)
+
+-- src/lib.rt:358:1
+returns-2 : tie.Need-returns-2
+returns-2 c =
+    let k = c .before .before .before .before in
+    let s = c .before .before .before .before .before .before .before .before .before .before in
+    let v = s .args in
+    polls-told (v .settings) (v .reading) (v .sequences) (lent (v .data-pairs .now) (v .data-sources .now) (v .sync-pairs .now) (v .sync-sources .now)) (v .waiting .count) (v .rows .now) (v .store .now)
+    (k .check-timeouts .result .sequences) (lent (k .check-timeouts .last .1 .0) (k .check-timeouts .last .1 .1 .0) (k .check-timeouts .last .1 .1 .1 .0) (k .check-timeouts .last .1 .1 .1 .1 .0)) (k .check-timeouts .result .answer) (k .check-timeouts .ensures)
+    _ _ (c .before .said .given .1) (s .pre .1)
+
+pub poll-spec : {M : Type 1} → statement M
+poll-spec =
+    tie.close
+    (tie.spec
+    check-timeouts-requires
+    enum-known-said
+    enum-told
+    check-waiting-data-timeouts-requires
+    same-length
+    returns
+    returns-2)

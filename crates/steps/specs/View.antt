@@ -1,0 +1,167 @@
+-- What the parts of a step promise: for every state that has these tables, the model's definition gives what the code leaves and answers.
+-- Assumes nothing.
+use mathlib.Core.Path.{_≡_}
+use mathlib.Core.List.{List, [], _∷_}
+use mathlib.Core.Bool.{Bool, true, false, cond}
+use mathlib.Core.Option.{Option}
+use Prim.Native.Nat.{ℕ}
+use lib.Dec.{eqb}
+use lib.ListN.{length}
+use Rattle.settings.specs.declared.Settings.{Settings}
+use Rattle.merge.specs.declared.DmxData.{DmxData}
+use Rattle.merge.specs.declared.SourceCid.the-variants.{Of}
+use Rattle.merge.specs.Merge.{Dmx}
+use Rattle.waiting.specs.Waiting.{cleared}
+use Rattle.waiting.specs.Records.{records, over}
+use Rattle.waiting.specs.Entries.{waitingOf}
+use Rattle.waiting.specs.Entries as waiting
+use Rattle.waiting.specs.Calls.{Yields}
+use Rattle.listening.specs.declared.Listened.{Listened}
+use Rattle.listening.specs.View.{listenedOf}
+use Rattle.listening.specs.View as listening
+use Rattle.pairs.specs.declared.PairTable.{PairTable}
+use Rattle.pairs.specs.declared.SweepAnswer.{SweepAnswer}
+use Rattle.pairs.specs.declared.Checked.{Checked}
+use Rattle.pairs.specs.declared.Checked.the-variants as checked
+use Rattle.pairs.specs.Table.{Table, Key}
+use Rattle.pairs.specs.View.{tableOf, answerOf}
+use Rattle.pairs.specs.View as counted
+use Rattle.sequences.specs.declared.SequenceNumbering.{SequenceNumbering}
+use Rattle.sequences.specs.View as numbered
+use Rattle.model.specs.declared.StepAnswer.{StepAnswer}
+use Rattle.model.specs.declared.StepAnswer.the-variants as says
+use Rattle.model.specs.Packet as model
+use Rattle.model.specs.State.{State}
+use Rattle.model.specs.Step.{Outcome, with-data, with-sync, with-waiting, with-listened, dmx, synchronised, accepted, data-arrival, sync-arrival, poll}
+use Rattle.steps.specs.declared.DataPacket.{DataPacket}
+use Rattle.steps.specs.declared.SyncPacket.{SyncPacket}
+
+abbrev pub Rows : Type 0
+Rows = List (List ℕ)
+
+-- the packets as the model has them
+abbrev pub packetOf : DataPacket → List ℕ → model.DataPacket
+packetOf p vs = record {
+  cid = p .cid;
+  universe = p .universe;
+  address = p .address;
+  priority = p .priority;
+  sequence = p .sequence .0;
+  preview = p .preview;
+  terminated = p .terminated;
+  force-synchronization = p .«force_synchronization»;
+  values = vs;
+}
+
+abbrev pub syncOf : SyncPacket → model.SyncPacket
+syncOf y = record { cid = y .cid; address = y .address; sequence = y .sequence .0 }
+
+abbrev pub dataOf : DataPacket → ℕ → DmxData
+dataOf p now = record {
+  universe = p .universe;
+  «sync_uni» = p .address;
+  priority = p .priority;
+  «src_cid» = Of (p .cid);
+  preview = p .preview;
+  «recv_timestamp» = now;
+}
+
+-- the waiting data and the listened universes, with their headers
+pub record Lent : Type 0 where
+  pub count : ℕ
+  pub listened : Listened
+  pub rows : Rows
+  pub store : List ℕ
+  pub heard : List ℕ
+
+abbrev pub lentOf : ℕ → Listened → Rows → List ℕ → List ℕ → Lent
+lentOf n l rows store heard = record { count = n; listened = l; rows = rows; store = store; heard = heard }
+
+abbrev pub waits : Lent → List Dmx
+waits m = waitingOf (m .count) (m .rows) (m .store)
+
+abbrev pub hears : Lent → List ℕ
+hears m = listenedOf (m .listened) (m .heard)
+
+-- a packet released at once
+pub record Releases (now : ℕ) (d : model.DataPacket) (n : ℕ) (rows : Rows) (store out : List ℕ) (n′ : ℕ) (rows′ : Rows) (store′ out′ : List ℕ) (bytes : ℕ) : Type 0 where
+  pub yields : Yields rows store rows′ store′ n′ (cleared (d .universe) (waitingOf n rows store) .0)
+  pub written : out′ ≡ over (records (dmx now d ∷ [])) out
+  pub byte-count : bytes ≡ length (records (dmx now d ∷ []))
+
+-- the tables after the call, ready for the next, in memory that is else unchanged
+pub record Ready (m m′ : Lent) : Type 0 where
+  pub kept-waiting : waiting.Kept (m′ .count) (m′ .rows) (m′ .store)
+  pub lent-waiting : waiting.Lent (m .rows) (m .store) (m′ .rows) (m′ .store)
+  pub kept-listened : listening.Kept (m′ .listened) (m′ .heard)
+
+-- a packet held
+pub record Holds (S : Settings) (now : ℕ) (d : model.DataPacket) (m m′ : Lent) (answer : StepAnswer) : Type 0 where
+  pub outcome-is : (s : State) → s .waiting ≡ waits m → s .listened ≡ hears m
+      → synchronised S now d s ≡ record { state = with-waiting (waits m′) (with-listened (hears m′) s); answer = answer; released = [] }
+  pub ready : Ready m m′
+
+-- an accepted data packet
+pub record Accepts (S : Settings) (now : ℕ) (d : model.DataPacket) (m : Lent) (out : List ℕ) (m′ : Lent) (out′ : List ℕ) (answer : StepAnswer) : Type 0 where
+  pub released : List Dmx
+  pub outcome-is : (s : State) → s .waiting ≡ waits m → s .listened ≡ hears m
+      → accepted S now d s ≡ record { state = with-waiting (waits m′) (with-listened (hears m′) s); answer = answer; released = released }
+  pub written : out′ ≡ over (records released) out
+  pub ready : Ready m m′
+
+-- a pair table with its rows
+pub record Counted : Type 0 where
+  pub table : PairTable
+  pub pairs : Rows
+  pub sources : Rows
+
+abbrev pub rowsOf : PairTable → Rows → Rows → Counted
+rowsOf t ps ss = record { table = t; pairs = ps; sources = ss }
+
+abbrev pub counts : Counted → Table
+counts k = tableOf (k .table) (k .pairs) (k .sources)
+
+abbrev pub Kept-counted : Counted → Type 0
+Kept-counted k = counted.Kept (k .table) (k .pairs) (k .sources)
+
+-- an arriving data packet
+pub record Arrives (S : Settings) (now : ℕ) (d : model.DataPacket) (k : Counted) (m : Lent) (out : List ℕ) (k′ : Counted) (m′ : Lent) (out′ : List ℕ) (answer : StepAnswer) : Type 0 where
+  pub released : List Dmx
+  pub outcome-is : (s : State) → s .data-pairs ≡ counts k → s .waiting ≡ waits m → s .listened ≡ hears m
+      → data-arrival S now d s ≡ record { state = with-data (counts k′) (with-waiting (waits m′) (with-listened (hears m′) s)); answer = answer; released = released }
+  pub written : out′ ≡ over (records released) out
+  pub kept : Kept-counted k′
+  pub ready : Ready m m′
+
+-- nothing stopped the arrival
+abbrev pub taken : Checked → Bool
+taken checked.Accepted = true
+taken (checked.UniverseTimeout c u) = false
+taken (checked.SourcesExceeded n) = false
+taken (checked.OutOfSequence a l d) = false
+taken checked.PairsFull = false
+taken checked.SourceWithoutPairs = false
+
+-- what a release answers
+abbrev pub releaseSaid : ℕ → ℕ → StepAnswer
+releaseSaid n b = cond (eqb n 0) says.Nothing (says.Released n b)
+
+-- an arriving synchronisation packet
+pub record Synchronises (S : Settings) (now : ℕ) (y : model.SyncPacket) (k : Counted) (n : ℕ) (rows : Rows) (store out : List ℕ) (k′ : Counted) (n′ : ℕ) (rows′ : Rows) (store′ out′ : List ℕ) (answer : StepAnswer) : Type 0 where
+  pub released : List Dmx
+  pub outcome-is : (s : State) → s .sync-pairs ≡ counts k → s .waiting ≡ waitingOf n rows store
+      → sync-arrival S now y s ≡ record { state = with-sync (counts k′) (with-waiting (waitingOf n′ rows′ store′) s); answer = answer; released = released }
+  pub written : out′ ≡ over (records released) out
+  pub kept : Kept-counted k′
+  pub kept-waiting : waiting.Kept n′ rows′ store′
+  pub lent-waiting : waiting.Lent rows store rows′ store′
+
+-- the poll
+pub record Polls (S : Settings) (now : ℕ) (q : SequenceNumbering) (m : numbered.Lent) (n : ℕ) (rows : Rows) (store : List ℕ) (q′ : SequenceNumbering) (m′ : numbered.Lent) (n′ : ℕ) (rows′ : Rows) (store′ : List ℕ) (answer : SweepAnswer) : Type 0 where
+  pub timed-out : Option Key
+  pub answer-is : answer ≡ answerOf timed-out
+  pub state-is : (s : State) → s .data-pairs ≡ numbered.dataOf q m → s .sync-pairs ≡ numbered.syncOf q m → s .waiting ≡ waitingOf n rows store
+      → poll S now s ≡ (with-data (numbered.dataOf q′ m′) (with-sync (numbered.syncOf q′ m′) (with-waiting (waitingOf n′ rows′ store′) s)), timed-out)
+  pub kept : numbered.Kept q′ m′
+  pub kept-waiting : waiting.Kept n′ rows′ store′
+  pub lent-waiting : waiting.Lent rows store rows′ store′

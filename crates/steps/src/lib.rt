@@ -1,0 +1,407 @@
+// The parts of a step that follow the poll: what a packet makes of the tables that it touches. The receiver puts them together.
+ghost use mathlib.Core.Path.{_≡_};
+ghost use Prim.Native.Nat.{_≤_};
+ghost use lib.ListN.{length};
+ghost use Rattle.waiting.specs.Entries as held;
+ghost use Rattle.listening.specs.View as hearing;
+ghost use Rattle.model.specs.Step.{kept, stopped};
+ghost use Rattle.pairs.specs.View as counted;
+ghost use Rattle.sequences.specs.View as numbered;
+ghost use Rattle.steps.specs.View.{packetOf, dataOf, syncOf, lentOf, rowsOf, taken, releaseSaid, Releases, Holds, Accepts, Arrives, Synchronises, Polls};
+use listening::Listened;
+use merge::DmxData;
+use merge::SourceCid;
+use model::ListenAnswer;
+use model::StepAnswer;
+use pairs::Checked;
+use pairs::DataTable;
+use pairs::SweepAnswer;
+use pairs::SyncTable;
+use rules::Cid;
+use rules::DataSequence;
+use rules::SyncSequence;
+use sequences::SequenceNumbering;
+use settings::Settings;
+use waiting::StoreAnswer;
+use waiting::Waiting;
+use waiting::write_record;
+
+// A data packet but for its values, which stand beside it as a lent part.
+pub struct DataPacket {
+    pub cid: Cid,
+    pub universe: u16,
+    pub address: u16,
+    pub priority: u8,
+    pub sequence: DataSequence,
+    pub preview: bool,
+    pub terminated: bool,
+    pub force_synchronization: bool,
+}
+
+pub struct SyncPacket {
+    pub cid: Cid,
+    pub address: u16,
+    pub sequence: SyncSequence,
+}
+
+pub struct PacketReleased {
+    pub waiting: Waiting,
+    pub bytes: usize,
+}
+
+pub struct Accepted {
+    pub waiting: Waiting,
+    pub listened: Listened,
+    pub answer: StepAnswer,
+}
+
+// The packet's fields as data received at this reading.
+pub fn dmx_data(packet: DataPacket, reading: u64) -> DmxData
+    ensures { λ r. ⌜ r ≡ dataOf packet reading ⌝ }
+{
+    let cid = packet.cid;
+    DmxData {
+        universe: packet.universe,
+        sync_uni: packet.address,
+        priority: packet.priority,
+        src_cid: SourceCid::Of(cid),
+        preview: packet.preview,
+        recv_timestamp: reading,
+    }
+}
+
+// What storing answers, as the step's answer.
+pub fn stored_answer(a: StoreAnswer) -> StepAnswer
+    ensures { λ r. ⌜ r ≡ kept a ⌝ }
+{
+    match a {
+        StoreAnswer::Stored => StepAnswer::Nothing,
+        StoreAnswer::MergeRefused => StepAnswer::DmxMergeError,
+        StoreAnswer::WaitingFull => StepAnswer::WaitingFull,
+    }
+}
+
+// Address 0: this universe's waiting data goes, and the packet is released.
+pub fn release_packet(
+    waiting: Waiting,
+    rows: &mut [[u64; 9]; 64],
+    store: &mut [u8],
+    reading: u64,
+    packet: DataPacket,
+    values: &[u8],
+    out: &mut [u8],
+) -> PacketReleased
+    requires { ⌜ held.Kept (waiting .count) (now rows) (now store) × (35072 ≤ length (now out)) × (length (now values) ≤ 513) ⌝ }
+    ensures { λ r. ⌜ Releases reading (packetOf packet (now (values .entry))) (waiting .count) (now (rows .entry)) (now (store .entry)) (now (out .entry)) (r .waiting .count) (now (rows .exit)) (now (store .exit)) (now (out .exit)) (r .bytes) ⌝ }
+{
+    let c = waiting.clear_waiting_data(&mut *rows, &mut *store, packet.universe);
+    let w = c.waiting;
+    let d = dmx_data(packet, reading);
+    let n = write_record(&mut *out, 0, d, values);
+    PacketReleased {
+        waiting: w,
+        bytes: n,
+    }
+}
+
+// Another address: it is listened to, and the packet waits for its synchronisation.
+pub fn hold_packet(
+    waiting: Waiting,
+    listened: Listened,
+    rows: &mut [[u64; 9]; 64],
+    store: &mut [u8],
+    heard: &mut [u16; 1024],
+    settings: Settings,
+    reading: u64,
+    packet: DataPacket,
+    values: &[u8],
+) -> Accepted
+    requires { ⌜ held.Kept (waiting .count) (now rows) (now store) × hearing.Kept listened (now heard) × (length (now values) ≤ 513) ⌝ }
+    ensures { λ r. ⌜ Holds settings reading (packetOf packet (now (values .entry))) (lentOf (waiting .count) listened (now (rows .entry)) (now (store .entry)) (now (heard .entry))) (lentOf (r .waiting .count) (r .listened) (now (rows .exit)) (now (store .exit)) (now (heard .exit))) (r .answer) ⌝ }
+{
+    let l = listened.listen_universe(&mut *heard, packet.address);
+    let next = l.listened;
+    let told = l.answer;
+    match told {
+        ListenAnswer::IllegalUniverse(u) => Accepted {
+            waiting: waiting,
+            listened: next,
+            answer: StepAnswer::IllegalUniverse(u),
+        },
+        ListenAnswer::ListenedFull => Accepted {
+            waiting: waiting,
+            listened: next,
+            answer: StepAnswer::ListenedFull,
+        },
+        ListenAnswer::Listening => {
+            let choice = settings.merge;
+            let d = dmx_data(packet, reading);
+            let s = waiting.store_waiting_data(&mut *rows, &mut *store, choice, d, values);
+            let w = s.waiting;
+            let a = s.answer;
+            let answer = stored_answer(a);
+            Accepted {
+                waiting: w,
+                listened: next,
+                answer: answer,
+            }
+        }
+    }
+}
+
+// A data packet whose sequence is stored: released at once, or held.
+pub fn accept_data(
+    waiting: Waiting,
+    listened: Listened,
+    rows: &mut [[u64; 9]; 64],
+    store: &mut [u8],
+    heard: &mut [u16; 1024],
+    settings: Settings,
+    reading: u64,
+    packet: DataPacket,
+    values: &[u8],
+    out: &mut [u8],
+) -> Accepted
+    requires { ⌜ held.Kept (waiting .count) (now rows) (now store) × hearing.Kept listened (now heard) × (35072 ≤ length (now out)) × (length (now values) ≤ 513) ⌝ }
+    ensures { λ r. ⌜ Accepts settings reading (packetOf packet (now (values .entry))) (lentOf (waiting .count) listened (now (rows .entry)) (now (store .entry)) (now (heard .entry))) (now (out .entry)) (lentOf (r .waiting .count) (r .listened) (now (rows .exit)) (now (store .exit)) (now (heard .exit))) (now (out .exit)) (r .answer) ⌝ }
+{
+    if packet.address == 0 {
+        let p = release_packet(
+            waiting,
+            &mut *rows,
+            &mut *store,
+            reading,
+            packet,
+            values,
+            &mut *out,
+        );
+        let w = p.waiting;
+        return Accepted {
+            waiting: w,
+            listened: listened,
+            answer: StepAnswer::Released(1, p.bytes),
+        };
+    }
+    hold_packet(
+        waiting,
+        listened,
+        rows,
+        store,
+        heard,
+        settings,
+        reading,
+        packet,
+        values,
+    )
+}
+
+pub struct DataArrived {
+    pub data: DataTable,
+    pub waiting: Waiting,
+    pub listened: Listened,
+    pub answer: StepAnswer,
+}
+
+pub struct SyncArrived {
+    pub sync: SyncTable,
+    pub waiting: Waiting,
+    pub answer: StepAnswer,
+}
+
+pub struct Polled {
+    pub sequences: SequenceNumbering,
+    pub waiting: Waiting,
+    pub answer: SweepAnswer,
+}
+
+// Nothing stopped the arrival.
+pub fn is_accepted(a: Checked) -> bool
+    ensures { λ r. ⌜ r ≡ taken a ⌝ }
+{
+    match a {
+        Checked::Accepted => true,
+        Checked::UniverseTimeout(_, _) => false,
+        Checked::SourcesExceeded(_) => false,
+        Checked::OutOfSequence(_, _, _) => false,
+        Checked::PairsFull => false,
+        Checked::SourceWithoutPairs => false,
+    }
+}
+
+// What stops an arrival, as the step's answer.
+pub fn stop_answer(a: Checked) -> StepAnswer
+    ensures { λ r. ⌜ r ≡ stopped a ⌝ }
+{
+    match a {
+        Checked::Accepted => StepAnswer::Nothing,
+        Checked::UniverseTimeout(c, u) => StepAnswer::UniverseTimeout(c, u),
+        Checked::SourcesExceeded(n) => StepAnswer::SourcesExceeded(n),
+        Checked::OutOfSequence(a, l, d) => StepAnswer::OutOfSequence(a, l, d),
+        Checked::PairsFull => StepAnswer::PairsFull,
+        Checked::SourceWithoutPairs => StepAnswer::SourceWithoutPairs,
+    }
+}
+
+// A release's answer: nothing where none is left.
+pub fn release_answer(records: usize, bytes: usize) -> StepAnswer
+    ensures { λ r. ⌜ r ≡ releaseSaid records bytes ⌝ }
+{
+    if records == 0 {
+        return StepAnswer::Nothing;
+    }
+    StepAnswer::Released(records, bytes)
+}
+
+// A data packet for a listened universe: its sequence, then what an accepted packet does.
+pub fn arrive_data(
+    data: DataTable,
+    waiting: Waiting,
+    listened: Listened,
+    pairs: &mut [[u64; 4]; 1024],
+    sources: &mut [[u64; 2]; 1024],
+    rows: &mut [[u64; 9]; 64],
+    store: &mut [u8],
+    heard: &mut [u16; 1024],
+    settings: Settings,
+    reading: u64,
+    packet: DataPacket,
+    values: &[u8],
+    out: &mut [u8],
+) -> DataArrived
+    requires { ⌜ counted.Kept («data» .table) (now pairs) (now sources) × held.Kept (waiting .count) (now rows) (now store) × hearing.Kept listened (now heard) × (35072 ≤ length (now out)) × (length (now values) ≤ 513) ⌝ }
+    ensures { λ r. ⌜ Arrives settings reading (packetOf packet (now (values .entry))) (rowsOf («data» .table) (now (pairs .entry)) (now (sources .entry))) (lentOf (waiting .count) listened (now (rows .entry)) (now (store .entry)) (now (heard .entry))) (now (out .entry)) (rowsOf (r .«data» .table) (now (pairs .exit)) (now (sources .exit))) (lentOf (r .waiting .count) (r .listened) (now (rows .exit)) (now (store .exit)) (now (heard .exit))) (now (out .exit)) (r .answer) ⌝ }
+{
+    let limit = settings.source_limit;
+    let sequence = packet.sequence;
+    let a = data.check_seq_number(
+        &mut *pairs,
+        &mut *sources,
+        limit,
+        settings.announce_timeout,
+        packet.cid,
+        packet.universe,
+        sequence,
+        reading,
+    );
+    let next = a.table;
+    let said = a.answer;
+    if is_accepted(said) {
+        let r = accept_data(
+            waiting,
+            listened,
+            rows,
+            store,
+            heard,
+            settings,
+            reading,
+            packet,
+            values,
+            out,
+        );
+        let w = r.waiting;
+        let l = r.listened;
+        let answer = r.answer;
+        return DataArrived {
+            data: next,
+            waiting: w,
+            listened: l,
+            answer: answer,
+        };
+    }
+    let answer = stop_answer(said);
+    DataArrived {
+        data: next,
+        waiting: waiting,
+        listened: listened,
+        answer: answer,
+    }
+}
+
+// A synchronisation packet for a listened address: its sequence, then the release.
+pub fn arrive_sync(
+    sync: SyncTable,
+    waiting: Waiting,
+    pairs: &mut [[u64; 4]; 1024],
+    sources: &mut [[u64; 2]; 1024],
+    rows: &mut [[u64; 9]; 64],
+    store: &mut [u8],
+    settings: Settings,
+    reading: u64,
+    packet: SyncPacket,
+    out: &mut [u8],
+) -> SyncArrived
+    requires { ⌜ counted.Kept (sync .table) (now pairs) (now sources) × held.Kept (waiting .count) (now rows) (now store) × (35072 ≤ length (now out)) ⌝ }
+    ensures { λ r. ⌜ Synchronises settings reading (syncOf packet) (rowsOf (sync .table) (now (pairs .entry)) (now (sources .entry))) (waiting .count) (now (rows .entry)) (now (store .entry)) (now (out .entry)) (rowsOf (r .sync .table) (now (pairs .exit)) (now (sources .exit))) (r .waiting .count) (now (rows .exit)) (now (store .exit)) (now (out .exit)) (r .answer) ⌝ }
+{
+    let limit = settings.source_limit;
+    let sequence = packet.sequence;
+    let a = sync.check_seq_number(
+        &mut *pairs,
+        &mut *sources,
+        limit,
+        settings.announce_timeout,
+        packet.cid,
+        packet.address,
+        sequence,
+        reading,
+    );
+    let next = a.table;
+    let said = a.answer;
+    if is_accepted(said) {
+        let r = waiting.rtrv_waiting_data(rows, store, packet.address, reading, out);
+        let w = r.waiting;
+        let answer = release_answer(r.records, r.bytes);
+        return SyncArrived {
+            sync: next,
+            waiting: w,
+            answer: answer,
+        };
+    }
+    let answer = stop_answer(said);
+    SyncArrived {
+        sync: next,
+        waiting: waiting,
+        answer: answer,
+    }
+}
+
+// Both pair tables are swept, then the waiting data; number 4 ends it.
+pub fn poll(
+    sequences: SequenceNumbering,
+    waiting: Waiting,
+    data_pairs: &mut [[u64; 4]; 1024],
+    data_sources: &mut [[u64; 2]; 1024],
+    sync_pairs: &mut [[u64; 4]; 1024],
+    sync_sources: &mut [[u64; 2]; 1024],
+    rows: &mut [[u64; 9]; 64],
+    store: &mut [u8],
+    settings: Settings,
+    reading: u64,
+) -> Polled
+    requires { ⌜ numbered.Kept sequences (numbered.lent (now «data_pairs») (now «data_sources») (now «sync_pairs») (now «sync_sources»)) × held.Kept (waiting .count) (now rows) (now store) ⌝ }
+    ensures { λ r. ⌜ Polls settings reading sequences (numbered.lent (now («data_pairs» .entry)) (now («data_sources» .entry)) (now («sync_pairs» .entry)) (now («sync_sources» .entry))) (waiting .count) (now (rows .entry)) (now (store .entry)) (r .sequences) (numbered.lent (now («data_pairs» .exit)) (now («data_sources» .exit)) (now («sync_pairs» .exit)) (now («sync_sources» .exit))) (r .waiting .count) (now (rows .exit)) (now (store .exit)) (r .answer) ⌝ }
+{
+    let t = sequences.check_timeouts(
+        data_pairs,
+        data_sources,
+        sync_pairs,
+        sync_sources,
+        settings.announce_timeout,
+        reading,
+    );
+    let next = t.sequences;
+    let said = t.answer;
+    let SweepAnswer::TimedOut(cid, universe) = said else {
+        let w = waiting.check_waiting_data_timeouts(rows, store, reading);
+        return Polled {
+            sequences: next,
+            waiting: w,
+            answer: SweepAnswer::Quiet,
+        };
+    };
+    Polled {
+        sequences: next,
+        waiting: waiting,
+        answer: SweepAnswer::TimedOut(cid, universe),
+    }
+}
