@@ -13,6 +13,8 @@ use Rattle.table.specs.Table.{keep}
 use Rattle.table.specs.Arrays.{next}
 use Rattle.rules.specs.declared.Cid.{Cid}
 use Rattle.discovery.specs.declared.Discovery.{Discovery}
+use Rattle.discovery.specs.declared.SourceHead.{SourceHead}
+use Rattle.discovery.specs.declared.PageHead.{PageHead}
 use Rattle.discovery.specs.Discovery.{Page, Source}
 use Rattle.discovery.specs.Store.{pages-at, sourceOf, sources-at, viewOf}
 use Rattle.discovery.specs.Rows.{owned, headOf, leafAt, heads, leaves, total, amount}
@@ -197,3 +199,16 @@ module _ (m : ℕ) (c : Cid) (d : Discovery) (P : List (List ℕ)) (U : List ℕ
 pub page-number : (m : ℕ) (c : Cid) (d : Discovery) (P : List (List ℕ)) (U : List ℕ) → length (pages-at m (leavesOf d P U) c) ≡ length (keep (owned m c) (take (d .«page_count») P))
 unfolding leavesOf
 page-number m c d P U = pages-count m c (take (d .«page_count») P) U
+
+-- ── what a row says ──
+-- a source's row: the fields of its head
+pub record HeadRead (row : List ℕ) (h : SourceHead) : Type 0 where
+  pub cid-read : h .cid ≡ headOf row [] .cid
+  pub length-read : h .«name_length» ≡ getD row 5 0
+  pub last-read : h .«last_page» ≡ headOf row [] .last-page
+  pub reading-read : h .reading ≡ headOf row [] .reading
+
+-- a page's row: its number, and how many universes it has
+pub record PageRead (row : List ℕ) (h : PageHead) : Type 0 where
+  pub number-read : h .number ≡ getD row 3 0
+  pub count-read : h .count ≡ amount row

@@ -12,8 +12,8 @@ ghost use lib.ListN.{length, take, getD};
 ghost use Rattle.table.specs.Table.{any};
 ghost use Rattle.table.specs.Place.{prefix};
 ghost use Rattle.discovery.specs.Store.{heads-of, pages-at, sources-at};
-ghost use Rattle.discovery.specs.Rows.{owned, total, Few};
-ghost use Rattle.discovery.specs.Reads.{source-of-row, page-of-row};
+ghost use Rattle.discovery.specs.Rows.{owned, total, Few, Packing};
+ghost use Rattle.discovery.specs.Reads.{source-of-row, page-of-row, HeadRead, PageRead};
 ghost use Rattle.discovery.specs.Discovery.{Page, Source, lookup, begun, extended, extend, list, noting, taken, ended, swept, nothing-known};
 ghost use Rattle.discovery.specs.Moves.{with-source};
 ghost use Rattle.discovery.specs.Arrive.{Took, Arrival};
@@ -484,5 +484,58 @@ impl Discovery {
         ensures { λ r. ⌜ r ≡ total (take at (now (pages .entry))) ⌝ }
     {
         offset(pages, at)
+    }
+
+    // The universes of the page in this row, where they lie in the pool.
+    pub fn page_universes<'a>(
+        self,
+        pages: &[[u64; 5]; 64],
+        universes: &'a [u16],
+        at: usize,
+    ) -> &'a [u16]
+        requires { ⌜ Packing (self .«page_count») (now pages) (now universes) × (at < self .«page_count») ⌝ }
+        ensures { λ r. ⌜ now r ≡ page-of-row (now (pages .entry)) (now (universes .entry)) at .universes ⌝ }
+    {
+        let start = offset(pages, at);
+        let row = pages[at];
+        let end = start + row[4] as usize;
+        &universes[start..end]
+    }
+}
+
+// What a source's row says beside its mark; the name is the first name_length bytes of the name row.
+pub struct SourceHead {
+    pub cid: Cid,
+    pub name_length: u64,
+    pub last_page: u64,
+    pub reading: u64,
+}
+
+// What a page's row says beside its owner.
+pub struct PageHead {
+    pub number: u64,
+    pub count: u64,
+}
+
+pub fn source_head(row: [u64; 6]) -> SourceHead
+    ensures { λ r. ⌜ HeadRead row r ⌝ }
+{
+    SourceHead {
+        cid: Cid {
+            hi: row[1],
+            lo: row[2],
+        },
+        name_length: row[5],
+        last_page: row[3],
+        reading: row[4],
+    }
+}
+
+pub fn page_head(row: [u64; 5]) -> PageHead
+    ensures { λ r. ⌜ PageRead row r ⌝ }
+{
+    PageHead {
+        number: row[3],
+        count: row[4],
     }
 }
