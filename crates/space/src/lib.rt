@@ -1,0 +1,76 @@
+// Document 01, 'The receiver', 1: the lengths that a step tests before all else, and those that a further call tests.
+ghost use mathlib.Core.Path.{_≡_};
+ghost use lib.ListN.{length};
+ghost use Rattle.model.specs.Packet.{DataPacket, over, first-of};
+ghost use Rattle.model.specs.Step.{too-short, short, waiting-bytes, page-bytes};
+ghost use Rattle.merge.specs.Merge.{most-values};
+ghost use Rattle.discovery.specs.Discovery.{most-name, most-universes};
+ghost use Rattle.space.specs.Space.{spaceOf, bytes, shortage, excess};
+
+// What a test of lengths finds.
+pub enum Measured {
+    Fits,
+    // 1: the length.
+    TooLong(usize),
+    // 15: the bytes needed.
+    TooShort(usize),
+}
+
+// The memory lent to a step: output, waiting values, page universes.
+pub fn test_space(out: &[u8], waiting: &[u8], pages: &[u16]) -> Measured
+    ensures { λ r. ⌜ r ≡ shortage (too-short (spaceOf (now (out .entry)) (now (waiting .entry)) (now (pages .entry)))) ⌝ }
+{
+    if out.len() < 35072 {
+        return Measured::TooShort(35072);
+    }
+    if waiting.len() < 32832 {
+        return Measured::TooShort(32832);
+    }
+    if pages.len() < 32768 {
+        return Measured::TooShort(65536);
+    }
+    Measured::Fits
+}
+
+// The waiting values lent to a poll or to `clear_waiting_data`.
+pub fn test_waiting_store(store: &[u8]) -> Measured
+    ensures { λ r. ⌜ r ≡ shortage (short waiting-bytes (length (now (store .entry)))) ⌝ }
+{
+    if store.len() < 32832 {
+        return Measured::TooShort(32832);
+    }
+    Measured::Fits
+}
+
+// The page universes lent to the discovery sweep.
+pub fn test_page_store(universes: &[u16]) -> Measured
+    ensures { λ r. ⌜ r ≡ shortage (short page-bytes (bytes (now (universes .entry)))) ⌝ }
+{
+    if universes.len() < 32768 {
+        return Measured::TooShort(65536);
+    }
+    Measured::Fits
+}
+
+// The values of a data packet.
+pub fn test_values(values: &[u8]) -> Measured
+    ensures { λ r. ⌜ r ≡ excess (over most-values (now (values .entry))) ⌝ }
+{
+    if 513 < values.len() {
+        return Measured::TooLong(values.len());
+    }
+    Measured::Fits
+}
+
+// The name and the list of a discovery packet, name before list.
+pub fn test_announcement(name: &[u8], list: &[u16]) -> Measured
+    ensures { λ r. ⌜ r ≡ excess (first-of (over most-name (now (name .entry))) (over most-universes (now (list .entry)))) ⌝ }
+{
+    if 63 < name.len() {
+        return Measured::TooLong(name.len());
+    }
+    if 512 < list.len() {
+        return Measured::TooLong(list.len());
+    }
+    Measured::Fits
+}
