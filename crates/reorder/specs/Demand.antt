@@ -17,6 +17,7 @@ use Rattle.settings.specs.declared.Settings.{Settings}
 use Rattle.settings.specs.declared.MergeChoice.the-variants.{HtpDmxMerge}
 use Rattle.settings.specs.declared.SourceLimit.{SourceLimit}
 use Rattle.settings.specs.declared.SourceLimit.the-variants.{Unlimited, AtMost}
+use Rattle.pairs.specs.Table.{itself}
 use Rattle.waiting.specs.Records.{records}
 use Rattle.discovery.specs.Discovery.{lookup}
 use Rattle.model.specs.Answer.{stepNumber, stepValues}
@@ -128,9 +129,6 @@ abbrev pub NeverFalls : List Timed → Type 0
 NeverFalls ps = (k l : ℕ) (p q : Timed) → k < l → At ps k p → At ps l q → p .reading ≤ q .reading
 
 -- "Sources are counted by the CIDs in data and synchronisation packets."
-abbrev pub itself : Cid → Cid
-itself c = c
-
 unfoldable pub counted : Packet → List Cid → List Cid
 counted (data-packet d) cs = store before itself (d .cid) cs
 counted (sync-packet y) cs = store before itself (y .cid) cs
@@ -165,8 +163,8 @@ pub record Asked (S : Settings) (ts : List Telling) (places : List ℕ) (north s
   -- "sources number no more than the limit"
   pub in-limit : InLimit (S .«source_limit») (sources-of north)
   -- "enough lent space": "Lent space is enough if no rule for 15 applies."
-  pub north-space : (i : ℕ) → too-short (lent-north i) ≡ none
-  pub south-space : (i : ℕ) → too-short (lent-south i) ≡ none
+  pub north-space : (i : ℕ) → i < length north → too-short (lent-north i) ≡ none
+  pub south-space : (i : ℕ) → i < length south → too-short (lent-south i) ≡ none
   -- "and neither run gives 10 to 13"
   pub north-fits : NoneFull (answers S lent-north 0 (start ts) north)
   pub south-fits : NoneFull (answers S lent-south 0 (start ts) south)

@@ -6,7 +6,7 @@ use mathlib.Core.Logic.{_≢_}
 use mathlib.Core.Option.{Option, none, some}
 use mathlib.Core.Bool.{Bool, true, false, cond, not, _&&_}
 use mathlib.Core.List.{List, [], _∷_, map}
-use Prim.Native.Nat.{ℕ, zero, suc, _≤_, _<_}
+use Prim.Native.Nat.{ℕ, zero, suc, _+_, _≤_, _<_}
 use native.Mathlib.Omega.{arith}
 use lib.Dec.{ltb, leb, eqb}
 use lib.ListN.{length, getElem?}
@@ -20,7 +20,7 @@ use Rattle.rules.specs.Universe.{legal}
 use Rattle.settings.specs.declared.Settings.{Settings}
 use Rattle.settings.specs.declared.MergeChoice.the-variants.{HtpDmxMerge}
 use Rattle.pairs.specs.Table as pairs
-use Rattle.pairs.specs.Table.{Table, has, swept}
+use Rattle.pairs.specs.Table.{Table, has, swept, itself}
 use Rattle.pairs.specs.Laws.{GoodTable, good-empty, swept-swept, swept-quiet}
 use Rattle.merge.specs.Merge.{Dmx}
 use Rattle.merge.specs.Laws.{Like}
@@ -38,7 +38,7 @@ use Rattle.model.specs.Step as model
 use Rattle.model.specs.Step.{Space, Outcome, too-short}
 use Rattle.model.specs.Calls.{listen-call, mute-call}
 use Rattle.model.specs.Invariant.{Heard, listen-heard, mute-heard, heard-fresh}
-use Rattle.reorder.specs.Demand.{Timed, At, Picks, Reordering, MovedPast, Free, Telling, listen, mute, tell, start, nameOf, Answered, answered, outcome-of, end, answers, DataAt, SyncAt, itself, counted, sources-of, InLimit, NoneFull, Asked, EndAlike, Agreed, Demand-3}
+use Rattle.reorder.specs.Demand.{Timed, At, Picks, Reordering, MovedPast, Free, Telling, listen, mute, tell, start, nameOf, Answered, answered, outcome-of, end, answers, DataAt, SyncAt, counted, sources-of, InLimit, NoneFull, Asked, EndAlike, Agreed, Demand-3}
 use Rattle.reorder.specs.Reorder.{Commutes, All, at-all, guarded, passes, fails, guarded-commutes, as-ideal}
 use Rattle.reorder.specs.Reorder as reorder
 use Rattle.reorder.specs.Ideal.{Told, say, Effect, apply, effect, polled, step, Same, Good, Fits, FitsPacket, Indep, Sound, sound, good-apply, good-polled, polled-polled, commutes, change, Local, discovery-effect}
@@ -136,27 +136,31 @@ answer-of : Timed → Told → Answered
 answer-of p t = record { number = stepNumber (t .answer); values = stepValues (nameOf (p .packet)) (t .answer); bytes = records (t .released) }
 
 -- ── runs of demand 3 are runs of the machine ──
-module _ (S : Settings) (lent : ℕ → Space) (space : (i : ℕ) → too-short (lent i) ≡ none) where
-  state-of : (i : ℕ) (s : State) (p : Timed) → outcome-of S lent i s p .state ≡ (receive S s p) .0
-  state-of i s p = ap (λ (r : State × Told). r .0) (enough-space (lent i) S p s (space i))
+module _ (S : Settings) (lent : ℕ → Space) (n : ℕ) (space : (i : ℕ) → i < n → too-short (lent i) ≡ none) where
+  state-of : (i : ℕ) (s : State) (p : Timed) → i < n → outcome-of S lent i s p .state ≡ (receive S s p) .0
+  state-of i s p h = ap (λ (r : State × Told). r .0) (enough-space (lent i) S p s (space i h))
 
-  told-of : (i : ℕ) (s : State) (p : Timed) → answered (p .packet) (outcome-of S lent i s p) ≡ answer-of p ((receive S s p) .1)
+  told-of : (i : ℕ) (s : State) (p : Timed) → i < n → answered (p .packet) (outcome-of S lent i s p) ≡ answer-of p ((receive S s p) .1)
   unfolding answer-of
-  told-of i s p =
+  told-of i s p h =
       ap (λ (r : State × Told). record { number = stepNumber (r .1 .answer); values = stepValues (nameOf (p .packet)) (r .1 .answer); bytes = records (r .1 .released) })
-      (enough-space (lent i) S p s (space i))
+      (enough-space (lent i) S p s (space i h))
 
-  end-run : (i : ℕ) (s : State) (ps : List Timed) → end S lent i s ps ≡ reorder.final (relabel answer-of (receive S)) s ps
+  end-run : (i : ℕ) (s : State) (ps : List Timed) → i + length ps ≤ n → end S lent i s ps ≡ reorder.final (relabel answer-of (receive S)) s ps
   unfolding end
-  end-run i s [] = refl
-  end-run i s (p ∷ ps) = rw (state-of i s p) (end-run (suc i) ((receive S s p) .0) ps)
+  end-run i s [] h = refl
+  end-run i s (p ∷ ps) h = rw (state-of i s p (omega arith)) (end-run (suc i) ((receive S s p) .0) ps (omega arith))
 
-  answers-run : (i : ℕ) (s : State) (ps : List Timed) → answers S lent i s ps ≡ reorder.answers (relabel answer-of (receive S)) s ps
+  answers-run : (i : ℕ) (s : State) (ps : List Timed) → i + length ps ≤ n → answers S lent i s ps ≡ reorder.answers (relabel answer-of (receive S)) s ps
   unfolding answers
-  answers-run i s [] = refl
-  answers-run i s (p ∷ ps) =
-      let r = answers-run (suc i) ((receive S s p) .0) ps in
-      rw (told-of i s p, state-of i s p) (ap (λ (l : List Answered). answer-of p ((receive S s p) .1) ∷ l) r)
+  answers-run i s [] h = refl
+  answers-run i s (p ∷ ps) h =
+      let r = answers-run (suc i) ((receive S s p) .0) ps (omega arith) in
+      let l : i < n = omega arith in
+      rw (told-of i s p l, state-of i s p l) (ap (λ (l : List Answered). answer-of p ((receive S s p) .1) ∷ l) r)
+
+full : Answered → Bool
+full a = leb 10 (a .number) && leb (a .number) 13
 
 -- ── what holds of every packet and every state of the runs ──
 module _ (address-of first-of : ℕ → ℕ) (S : Settings) (L : List ℕ) (D : List Cid) (off : S .«announce_timeout» ≡ false) (highest : S .merge ≡ HtpDmxMerge)
@@ -268,9 +272,6 @@ module _ (address-of first-of : ℕ → ℕ) (S : Settings) (L : List ℕ) (D : 
       (λ a e. receive-long S s p a e ∙ sym (fails fault (step S) s p _ (fault-some p a e)))
 
   -- with the answers as demand 3 sees them
-  full : Answered → Bool
-  full a = leb 10 (a .number) && leb (a .number) 13
-
   agree-labelled : (s : State) (p : Timed) → GoodAt s → FitsAt p → full ((relabel answer-of (receive S) s p) .1) ≡ false
       → relabel answer-of (receive S) s p ≡ relabel answer-of ideal s p
   agree-labelled s p g f n =
@@ -520,15 +521,20 @@ module _ (S : Settings) (ts : List Telling) (places : List ℕ) (north south : L
           (λ p. (leb-true 10 n p, leb-true n 13 (rw p at e)))
           (λ p. clash (rw p at e) refl)
 
-  module _ (lent : ℕ → Space) (space : (i : ℕ) → too-short (lent i) ≡ none) (ps : List Timed) (fits : (i : ℕ) (p : Timed) → At ps i p → Fit p)
+  unfull : (a : Answered) → ((10 ≤ a .number) × (a .number ≤ 13) → ⊥) → full a ≡ false
+  unfolding full
+  unfull a h = not-full (a .number) h
+
+  module _ (lent : ℕ → Space) (ps : List Timed) (space : (i : ℕ) → i < length ps → too-short (lent i) ≡ none) (fits : (i : ℕ) (p : Timed) → At ps i p → Fit p)
       (fine : NoneFull (answers S lent 0 (start ts) ps)) where
     run-ideal : (answers S lent 0 (start ts) ps ≡ reorder.answers (relabel answer-of (guarded fault (step S))) (start ts) ps)
         × (end S lent 0 (start ts) ps ≡ reorder.final (relabel answer-of (guarded fault (step S))) (start ts) ps)
     run-ideal =
-        let e = answers-run S lent space 0 (start ts) ps in
+        let z : 0 + length ps ≤ length ps = omega arith in
+        let e = answers-run S lent (length ps) space 0 (start ts) ps z in
         let r = as-ideal-run address-of first-of S L (sources-of north) (A .timeouts-off) (A .highest-value) H (A .in-limit) sorted (start ts) ps good-start fits
-        (λ i a h. unfold full in not-full (a .number) (fine i a (rw e h))) in
-        (e ∙ r .0, end-run S lent space 0 (start ts) ps ∙ r .1)
+        (λ i a h. unfull a (fine i a (rw e h))) in
+        (e ∙ r .0, end-run S lent (length ps) space 0 (start ts) ps z ∙ r .1)
 
   fits-fine : (i : ℕ) (p : Timed) → At north i p → Fits address-of first-of S p
   fits-fine i p a = fits-ideal address-of first-of S L (sources-of north) (A .timeouts-off) (A .highest-value) H (A .in-limit) sorted (p .reading) (p .packet) (fits-north i p a)
@@ -538,8 +544,8 @@ module _ (S : Settings) (ts : List Telling) (places : List ℕ) (north south : L
 
   agreed : Agreed S ts places north south lent-north lent-south
   agreed =
-      let n = run-ideal lent-north (A .north-space) north fits-north (A .north-fits) in
-      let m = run-ideal lent-south (A .south-space) south fits-south (A .south-fits) in
+      let n = run-ideal lent-north north (A .north-space) fits-north (A .north-fits) in
+      let m = run-ideal lent-south south (A .south-space) fits-south (A .south-fits) in
       let e = reorder.same-end (relabel answer-of (guarded fault (step S))) Same (Good address-of first-of S) (Fits address-of first-of S) Indep commuting
       (start ts) (good-start .good) places north south (A .reordering) fits-fine independent in
       record {
