@@ -5,8 +5,8 @@ use mathlib.Core.Bool.{Bool, _&&_}
 use borrow.Author.Tests.{eq-eqb, ne-eqb}
 use Rattle.rules.specs.Cid.{same}
 use borrow.Author.Needs.{needs}
-use Rattle.discovery.proofs.rows.is_owner.Statement.{statement}
-use Rattle.discovery.proofs.rows.is_owner.Tie as tie
+use Rattle.discovery.proofs.owners.is_owner.Statement.{statement}
+use Rattle.discovery.proofs.owners.is_owner.Tie as tie
 
 returns : tie.Need-returns
 returns c = simp (ne-eqb (c .before .args .mark) (c .before .args .kind) (c .if1 .taken))

@@ -8,10 +8,10 @@ use native.Mathlib.Omega.{arith}
 use lib.ListN.{length, take, drop, getD}
 use Rattle.table.specs.Table.{keep}
 use Rattle.table.specs.Arrays.{spent}
-use Rattle.discovery.specs.Reads.{count-one, count-none, marked-row}
+use Rattle.readouts.specs.Reads.{count-one, count-none, marked-row}
 use borrow.Author.Needs.{needs}
-use Rattle.discovery.proofs.rows.count_sources.Statement.{statement}
-use Rattle.discovery.proofs.rows.count_sources.Tie as tie
+use Rattle.readouts.proofs.count_sources.Statement.{statement}
+use Rattle.readouts.proofs.count_sources.Tie as tie
 
 abbrev Inv-loop : tie.InvT-loop
 Inv-loop sources count mark n₀ i₀ n i = (i ≤ count) × (n ≤ i) × (n + length (keep (marked-row mark) (drop i (take count sources))) ≡ length (keep (marked-row mark) (take count sources)))

@@ -1,9 +1,9 @@
--- The k-th entry of a list that passes a test: where it stands, and how many there are.
+-- What is read out of the sources' rows: the k-th entry of a list that passes a test, where it stands, and how many there are.
 -- Assumes nothing.
 use mathlib.Core.Path.{_≡_, refl, ap, _∙_}
 use mathlib.Core.Bool.{Bool, true, false, cond}
 use mathlib.Core.List.{List, [], _∷_}
-use Prim.Native.Nat.{ℕ, zero, suc, _+_, _≤_, _<_}
+use Prim.Native.Nat.{ℕ, zero, suc, _+_, _-_, _*_, _≤_, _<_}
 use native.Mathlib.Omega.{arith}
 use lib.Dec.{eqb}
 use lib.ListN.{length, take, drop, getD, length-take}
@@ -12,13 +12,13 @@ use Rattle.table.specs.Cases.{split}
 use Rattle.table.specs.Table.{keep}
 use Rattle.table.specs.Arrays.{next}
 use Rattle.rules.specs.declared.Cid.{Cid}
 use Rattle.discovery.specs.declared.Discovery.{Discovery}
-use Rattle.discovery.specs.declared.SourceHead.{SourceHead}
-use Rattle.discovery.specs.declared.PageHead.{PageHead}
+use Rattle.readouts.specs.declared.SourceHead.{SourceHead}
+use Rattle.readouts.specs.declared.PageHead.{PageHead}
 use Rattle.discovery.specs.Discovery.{Page, Source}
 use Rattle.discovery.specs.Store.{pages-at, sourceOf, sources-at, viewOf}
-use Rattle.discovery.specs.Rows.{owned, headOf, leafAt, heads, leaves, total, amount}
+use Rattle.discovery.specs.Rows.{owned, headOf, leafAt, heads, leaves, total, amount, Few, Packing, total-few, few-less, few-at}
 use Rattle.discovery.specs.View.{headsOf, leavesOf, discoveredOf}
 
 -- how many entries stand before the k-th that passes the test; all of them where there are not so many
 unfoldable pub nth : {A : Type 0} → (A → Bool) → ℕ → List A → ℕ
@@ -39,6 +39,19 @@ module _ {A : Type 0} (p : A → Bool) where
       split (p x)
       (λ e. let g : suc k < length (x ∷ keep p l) = rw e at h in let r = nth-keep k l d (omega arith) in let q = r .0 in rw e (omega arith, r .1))
       (λ e. let r = nth-keep (suc k) l d (rw e at h) in let q = r .0 in rw e (omega arith, r .1))
+
+  -- there are not so many
+  pub nth-none : (k : ℕ) (l : List A) → length (keep p l) ≤ k → nth p k l ≡ length l
+  unfolding nth keep
+  nth-none k [] h = refl
+  nth-none zero (x ∷ l) h =
+      split (p x)
+      (λ e. let g : length (x ∷ keep p l) ≤ 0 = rw e at h in absurd (omega arith))
+      (λ e. let r = nth-none zero l (rw e at h) in rw e (ap suc r))
+  nth-none (suc k) (x ∷ l) h =
+      split (p x)
+      (λ e. let g : length (x ∷ keep p l) ≤ suc k = rw e at h in let r = nth-none k l (omega arith) in rw e (ap suc r))
+      (λ e. let r = nth-none (suc k) l (rw e at h) in rw e (ap suc r))
 
   -- the next entry looked at
   module _ (a : List A) (n r : ℕ) (d : A) (h : r < n) (l : r < length a) where
@@ -152,12 +165,29 @@ source-of-row m d S N P U r = sourceOf (pages-at m (leavesOf d P U)) (headOf (ge
 unfoldable pub page-of-row : List (List ℕ) → List ℕ → ℕ → Page
 page-of-row P U r = record { number = getD (getD P r []) 3 0; universes = take (getD (getD P r []) 4 0) (drop (total (take r P)) U) }
 
-module _ (m : ℕ) (d : Discovery) (S N P : List (List ℕ)) (U : List ℕ) (k : ℕ) (s₀ : Source) (few : d .«source_count» ≤ 64) (rows : length S ≡ 64) where
-  pub source-placed : k < length (sources-at m (headsOf d S N) (pages-at m (leavesOf d P U)))
+-- the sources of a mark, and the pages of one of them
+abbrev pub sources-of : ℕ → Discovery → List (List ℕ) → List (List ℕ) → List (List ℕ) → List ℕ → List Source
+sources-of m d S N P U = sources-at m (headsOf d S N) (pages-at m (leavesOf d P U))
+
+abbrev pub pages-of : ℕ → Cid → Discovery → List (List ℕ) → List ℕ → List Page
+pages-of m c d P U = pages-at m (leavesOf d P U) c
+
+-- row r holds the k-th source of the mark; there are not so many: r is the count
+pub record SourceAt (m k r : ℕ) (d : Discovery) (S N P : List (List ℕ)) (U : List ℕ) : Type 0 where
+  pub held : (other : Source) → k < length (sources-of m d S N P U) → (r < d .«source_count») × (getD (sources-of m d S N P U) k other ≡ source-of-row m d S N P U r)
+  pub past : length (sources-of m d S N P U) ≤ k → r ≡ d .«source_count»
+
+-- and so for the k-th page of a source
+pub record PageAt (m : ℕ) (c : Cid) (k r : ℕ) (d : Discovery) (P : List (List ℕ)) (U : List ℕ) : Type 0 where
+  pub held : (other : Page) → k < length (pages-of m c d P U) → (r < d .«page_count») × (getD (pages-of m c d P U) k other ≡ page-of-row P U r)
+  pub past : length (pages-of m c d P U) ≤ k → r ≡ d .«page_count»
+
+module _ (m : ℕ) (d : Discovery) (S N P : List (List ℕ)) (U : List ℕ) (k : ℕ) (few : d .«source_count» ≤ 64) (rows : length S ≡ 64) where
+  source-placed : (s₀ : Source) → k < length (sources-of m d S N P U)
       → (nth (marked-row m) k (take (d .«source_count») S) < d .«source_count»)
-      × (getD (sources-at m (headsOf d S N) (pages-at m (leavesOf d P U))) k s₀ ≡ source-of-row m d S N P U (nth (marked-row m) k (take (d .«source_count») S)))
+      × (getD (sources-of m d S N P U) k s₀ ≡ source-of-row m d S N P U (nth (marked-row m) k (take (d .«source_count») S)))
   unfolding headsOf source-of-row
-  source-placed h =
+  source-placed s₀ h =
       let n = d .«source_count» in
       let Q = pages-at m (leavesOf d P U) in
       let g = sources-nth m k (take n S) (take n N) Q s₀ h in
@@ -170,16 +200,23 @@ module _ (m : ℕ) (d : Discovery) (S N P : List (List ℕ)) (U : List ℕ) (k :
             ∙ ap (λ (x : List ℕ). sourceOf Q (headOf (getD S r []) x)) (getD-take n N r [] i),
       )
 
-  pub source-at-place : (r : ℕ) → r ≡ nth (marked-row m) k (take (d .«source_count») S) → k < length (sources-at m (headsOf d S N) (pages-at m (leavesOf d P U)))
-      → (r < d .«source_count») × (getD (sources-at m (headsOf d S N) (pages-at m (leavesOf d P U))) k s₀ ≡ source-of-row m d S N P U r)
-  source-at-place r e h = rw e (source-placed h)
+  source-past : length (sources-of m d S N P U) ≤ k → nth (marked-row m) k (take (d .«source_count») S) ≡ d .«source_count»
+  unfolding headsOf
+  source-past h =
+      let n = d .«source_count» in
+      let e = sources-count m (take n S) (take n N) (pages-at m (leavesOf d P U)) in
+      let t = length-take n S in
+      nth-none (marked-row m) k (take n S) (omega arith) ∙ omega arith
 
-module _ (m : ℕ) (c : Cid) (d : Discovery) (P : List (List ℕ)) (U : List ℕ) (k : ℕ) (p₀ : Page) (few : d .«page_count» ≤ 64) (rows : length P ≡ 64) where
-  pub page-placed : k < length (pages-at m (leavesOf d P U) c)
+  pub source-at : (r : ℕ) → r ≡ nth (marked-row m) k (take (d .«source_count») S) → SourceAt m k r d S N P U
+  source-at r e = record { held = λ s₀ h. rw e (source-placed s₀ h); past = λ h. e ∙ source-past h }
+
+module _ (m : ℕ) (c : Cid) (d : Discovery) (P : List (List ℕ)) (U : List ℕ) (k : ℕ) (few : d .«page_count» ≤ 64) (rows : length P ≡ 64) where
+  page-placed : (p₀ : Page) → k < length (pages-of m c d P U)
       → (nth (owned m c) k (take (d .«page_count») P) < d .«page_count»)
-      × (getD (pages-at m (leavesOf d P U) c) k p₀ ≡ page-of-row P U (nth (owned m c) k (take (d .«page_count») P)))
+      × (getD (pages-of m c d P U) k p₀ ≡ page-of-row P U (nth (owned m c) k (take (d .«page_count») P)))
   unfolding leavesOf page-of-row
-  page-placed h =
+  page-placed p₀ h =
       let n = d .«page_count» in
       let g = pages-nth m c k (take n P) U p₀ h in
       let r = nth (owned m c) k (take n P) in
@@ -192,13 +229,42 @@ module _ (m : ℕ) (c : Cid) (d : Discovery) (P : List (List ℕ)) (U : List ℕ
             ∙ ap (λ (x : List (List ℕ)). leafAt (getD P r []) (drop (total x) U) .page) (take-take r n P j),
       )
 
-  pub page-at-place : (r : ℕ) → r ≡ nth (owned m c) k (take (d .«page_count») P) → k < length (pages-at m (leavesOf d P U) c)
-      → (r < d .«page_count») × (getD (pages-at m (leavesOf d P U) c) k p₀ ≡ page-of-row P U r)
-  page-at-place r e h = rw e (page-placed h)
+  page-past : length (pages-of m c d P U) ≤ k → nth (owned m c) k (take (d .«page_count») P) ≡ d .«page_count»
+  unfolding leavesOf
+  page-past h =
+      let n = d .«page_count» in
+      let e = pages-count m c (take n P) U in
+      let t = length-take n P in
+      nth-none (owned m c) k (take n P) (omega arith) ∙ omega arith
+
+  pub page-at : (r : ℕ) → r ≡ nth (owned m c) k (take (d .«page_count») P) → PageAt m c k r d P U
+  page-at r e = record { held = λ p₀ h. rw e (page-placed p₀ h); past = λ h. e ∙ page-past h }
 
 pub page-number : (m : ℕ) (c : Cid) (d : Discovery) (P : List (List ℕ)) (U : List ℕ) → length (pages-at m (leavesOf d P U) c) ≡ length (keep (owned m c) (take (d .«page_count») P))
 unfolding leavesOf
 page-number m c d P U = pages-count m c (take (d .«page_count») P) U
+
+-- ── a page's universes in the pool ──
+module _ (n at : ℕ) (P : List (List ℕ)) (U : List ℕ) (k : Packing n P U) (h : at < n) where
+  pub few-before : Few (take at P)
+  few-before = few-less at n P (omega arith) (k .few)
+
+  -- 64 pages of at most 512 fit
+  pub page-inside : (o : ℕ) → o ≡ total (take at P) → (o + amount (getD P at []) ≤ length U) × (o + amount (getD P at []) ≤ 32768)
+  page-inside o e =
+      let w = k .within in
+      let l = k .rows in
+      let u = k .pool in
+      let a = total-few (take at P) few-before in
+      let b = few-at P n at (k .few) h (omega arith) in
+      (omega (arith, length-take at P), omega (arith, length-take at P))
+
+  pub page-part : (o : ℕ) → o ≡ total (take at P) → take (o + amount (getD P at []) - o) (drop o U) ≡ page-of-row P U at .universes
+  unfolding page-of-row
+  page-part o e =
+      let m = amount (getD P at []) in
+      let z : o + m - o ≡ m = omega arith in
+      ap (λ (x : ℕ). take x (drop o U)) z ∙ ap (λ (x : ℕ). take m (drop x U)) e
 
 -- ── what a row says ──
 -- a source's row: the fields of its head

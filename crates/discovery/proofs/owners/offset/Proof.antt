@@ -6,8 +6,8 @@ use native.Mathlib.Omega.{arith}
 use lib.ListN.{take}
 use Rattle.discovery.specs.Rows.{total, total-more, few-at}
 use borrow.Author.Needs.{needs}
-use Rattle.discovery.proofs.rows.offset.Statement.{statement}
-use Rattle.discovery.proofs.rows.offset.Tie as tie
+use Rattle.discovery.proofs.owners.offset.Statement.{statement}
+use Rattle.discovery.proofs.owners.offset.Tie as tie
 
 abbrev Inv-loop : tie.InvT-loop
 Inv-loop pages at sum₀ i₀ sum i = (i ≤ at) × (sum ≡ total (take i pages)) × (sum ≤ 512 * i)

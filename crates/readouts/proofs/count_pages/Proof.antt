@@ -8,11 +8,11 @@ use native.Mathlib.Omega.{arith}
 use lib.ListN.{length, take, drop, getD}
 use Rattle.table.specs.Table.{keep}
 use Rattle.table.specs.Arrays.{spent}
 use Rattle.discovery.specs.Rows.{owned}
-use Rattle.discovery.specs.Reads.{count-one, count-none}
+use Rattle.readouts.specs.Reads.{count-one, count-none}
 use borrow.Author.Needs.{needs}
-use Rattle.discovery.proofs.rows.count_pages.Statement.{statement}
-use Rattle.discovery.proofs.rows.count_pages.Tie as tie
+use Rattle.readouts.proofs.count_pages.Statement.{statement}
+use Rattle.readouts.proofs.count_pages.Tie as tie
 
 abbrev Inv-loop : tie.InvT-loop
 Inv-loop pages count mark cid n₀ i₀ n i = (i ≤ count) × (n ≤ i) × (n + length (keep (owned mark cid) (drop i (take count pages))) ≡ length (keep (owned mark cid) (take count pages)))
