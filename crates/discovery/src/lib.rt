@@ -6,18 +6,17 @@ mod rows;
 
 ghost use mathlib.Core.Path.{_≡_};
 ghost use mathlib.Core.Bool.{true, false, not};
-ghost use mathlib.Core.List.{List};
 ghost use mathlib.Core.Option.{some};
-ghost use Prim.Native.Nat.{ℕ, _+_, _≤_, _<_};
-ghost use lib.ListN.{length, take, getD};
+ghost use Prim.Native.Nat.{_+_, _≤_, _<_};
+ghost use lib.ListN.{length, take};
 ghost use Rattle.table.specs.Table.{any};
 ghost use Rattle.table.specs.Place.{prefix};
-ghost use Rattle.discovery.specs.Store.{heads-of, pages-at, sources-at};
-ghost use Rattle.discovery.specs.Rows.{owned, total, Few, Packing};
-ghost use Rattle.discovery.specs.Discovery.{Page, Source, lookup, begun, extended, extend, list, noting, taken, ended, swept, nothing-known};
+ghost use Rattle.discovery.specs.Store.{heads-of};
+ghost use Rattle.discovery.specs.Rows.{owned};
+ghost use Rattle.discovery.specs.Discovery.{Source, lookup, begun, extended, extend, list, noting, taken, ended, swept};
 ghost use Rattle.discovery.specs.Moves.{with-source};
 ghost use Rattle.discovery.specs.Arrive.{Took, Arrival};
-ghost use Rattle.discovery.specs.View.{headsOf, leavesOf, discoveredOf, Kept, Holds, Dropped};
+ghost use Rattle.discovery.specs.View.{headsOf, discoveredOf, Kept, Holds, Emptied, Dropped};
 use crate::pages::add_page;
 use crate::pages::cut_pages;
 use crate::pages::drop_pages;
@@ -362,7 +361,7 @@ impl Discovery {
 
     // Nothing is known, whatever the lent memory holds.
     pub fn new() -> Discovery
-        ensures { λ r. ⌜ ((sources names pages : List (List ℕ)) (universes : List ℕ) → length sources ≡ 64 → length names ≡ 64 → length pages ≡ 64 → 32768 ≤ length universes → Holds r sources names pages universes nothing-known) ⌝ }
+        ensures { λ r. ⌜ Emptied r ⌝ }
     {
         Discovery {
             source_count: 0,
@@ -373,7 +372,7 @@ impl Discovery {
 
     // All sources are forgotten.
     pub fn clear(self) -> Discovery
-        ensures { λ r. ⌜ ((sources names pages : List (List ℕ)) (universes : List ℕ) → length sources ≡ 64 → length names ≡ 64 → length pages ≡ 64 → 32768 ≤ length universes → Holds r sources names pages universes nothing-known) ⌝ }
+        ensures { λ r. ⌜ Emptied r ⌝ }
     {
         Discovery::new()
     }

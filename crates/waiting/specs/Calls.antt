@@ -47,11 +47,12 @@ pub record SweptCall (n : ℕ) (rows : List (List ℕ)) (store : List ℕ) (now 
   pub quiet : any (λ (d : Dmx). not (fresh now d)) (waitingOf n rows store) ≡ false → (rows′ ≡ rows) × (store′ ≡ store)
 
 -- no data at all, whatever the memory holds
-abbrev pub Empty : ℕ → Type 0
-Empty n = (rows : List (List ℕ)) (store : List ℕ) → Room rows store → Kept n rows store × (waitingOf n rows store ≡ [])
+pub record Empty (n : ℕ) : Type 0 where
+  pub none-waits : (rows : List (List ℕ)) (store : List ℕ) → waitingOf n rows store ≡ []
+  pub kept : (rows : List (List ℕ)) (store : List ℕ) → Room rows store → Kept n rows store
 
 pub empty-zero : Empty 0
-empty-zero rows store r = (record { room = r; count-fits = omega arith; ascends = tt }, refl)
+empty-zero = record { none-waits = λ rows store. refl; kept = λ rows store r. record { room = r; count-fits = omega arith; ascends = tt } }
 
 yield : (n m : ℕ) (rows rows′ : List (List ℕ)) (store store′ : List ℕ) (ds : List Dmx) → Kept n rows store → Lent rows store rows′ store′ → m ≤ 64
     → waitingOf m rows′ store′ ≡ ds → Ascending ltb universeOf ds → Yields rows store rows′ store′ m ds
