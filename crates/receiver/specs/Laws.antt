@@ -71,7 +71,7 @@ module _ (tag : Measured → ℕ) where
   not-long t (measured.TooShort n) k = refl
 
 -- what a store that is long enough says of its length
-room-for : (needed room : ℕ) → short needed room ≡ none → needed ≤ room
+pub room-for : (needed room : ℕ) → short needed room ≡ none → needed ≤ room
 room-for needed room e = split (ltb room needed) (λ h. none-some (sym (rw h at e))) (λ h. ltb-false room needed h)
 
 first-none : (a b : Option ℕ) → first-of a b ≡ none → (a ≡ none) × (b ≡ none)

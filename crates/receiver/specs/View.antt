@@ -1,10 +1,11 @@
 -- The receiver and its lent memory as the model's state, what calls presuppose and keep, and what each promises.
 -- Assumes nothing.
 use mathlib.Core.Path.{_≡_}
-use mathlib.Core.Bool.{Bool, true, false}
+use mathlib.Core.Bool.{Bool, true, false, not, _||_}
 use mathlib.Core.Option.{Option, none, some}
 use mathlib.Core.List.{List, []}
 use Prim.Native.Nat.{ℕ, _≤_}
+use lib.Dec.{eqb}
 use lib.ListN.{length}
 use Rattle.rules.specs.declared.Cid.{Cid}
 use Rattle.settings.specs.declared.Settings.{Settings}
@@ -24,7 +25,7 @@ use Rattle.space.specs.declared.Measured.the-variants as measured
 use Rattle.space.specs.Space.{spaceOf}
 use Rattle.model.specs.declared.StepAnswer.{StepAnswer}
 use Rattle.model.specs.Packet.{DataPacket, Packet, first-of, too-long}
-use Rattle.model.specs.State.{State}
+use Rattle.model.specs.State.{State, fresh}
 use Rattle.model.specs.Step.{Space, Outcome, outcome, too-short, terminated, packet-step, step}
 use Rattle.receiver.specs.declared.Receiver.{Receiver}
 use Rattle.receiver.specs.declared.DiscoveryPacket.{DiscoveryPacket}
@@ -99,6 +100,17 @@ abbrev pub announcementOf : DiscoveryPacket → List ℕ → List ℕ → Announ
 announcementOf d name list = record { cid = d .cid; name = name; page = d .page; last-page = d .«last_page»; universes = list }
 
 -- ── what is presupposed ──
+-- the lengths that the types of the lent arrays say
+pub record Sized (m : Memory) : Type 0 where
+  pub data-pairs-room : length (m .data-pairs) ≡ 1024
+  pub data-sources-room : length (m .data-sources) ≡ 1024
+  pub sync-pairs-room : length (m .sync-pairs) ≡ 1024
+  pub sync-sources-room : length (m .sync-sources) ≡ 1024
+  pub rows-room : length (m .rows) ≡ 64
+  pub sources-room : length (m .sources) ≡ 64
+  pub names-room : length (m .names) ≡ 64
+  pub pages-room : length (m .pages) ≡ 64
+
 -- 64 pages of 512 universes
 abbrev pub pool-length : ℕ
 pool-length = 32768
@@ -148,3 +160,24 @@ pub record Steps (S : Settings) (now : ℕ) (p : Packet) (r : Receiver) (m : Mem
   pub kept : Kept r′ m′
   pub all-left : (n : ℕ) → first-of (too-short (spaceIn m out)) (too-long p) ≡ some n → (r′ ≡ r) × (m′ ≡ m)
   pub lent-waiting : waiting.Lent (m .rows) (m .store) (m′ .rows) (m′ .store)
+
+-- ── the further calls ──
+-- a receiver that knows nothing
+pub record Begins (r : Receiver) (m : Memory) : Type 0 where
+  pub state-is : stateOf r m ≡ fresh
+  pub kept : Sized m → Kept r m
+
+-- 'What stops a call', column Left: of the stops of these calls all but 4 leave all
+abbrev pub leaves-all : ℕ → Bool
+leaves-all n = not (eqb n 0 || eqb n 4)
+
+-- answer and state are the definition's; the next call may follow; a stop that leaves all leaves header and lent bytes
+pub record Does {A : Type 0} (call : State → State × A) (number : A → ℕ) (r : Receiver) (m : Memory) (r′ : Receiver) (m′ : Memory) (answer : A) : Type 0 where
+  pub outcome-is : call (stateOf r m) ≡ (stateOf r′ m′, answer)
+  pub kept : Kept r m → Kept r′ m′
+  pub all-left : leaves-all (number answer) ≡ true → (r′ ≡ r) × (m′ ≡ m)
+
+-- a call that touches no memory and nothing stops
+pub record Becomes (call : State → State) (r r′ : Receiver) (m : Memory) : Type 0 where
+  pub state-is : stateOf r′ m ≡ call (stateOf r m)
+  pub kept : Kept r m → Kept r′ m

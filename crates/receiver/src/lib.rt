@@ -11,21 +11,33 @@ ghost use Rattle.sequences.specs.View as numbered;
 ghost use Rattle.discovery.specs.View as found;
 ghost use Rattle.pairs.specs.View as counted;
 ghost use Rattle.model.specs.Packet.{data-packet, sync-packet, discovery-packet};
+ghost use Rattle.model.specs.Answer.{pollNumber, expiryNumber, listenNumber, muteNumber, clearNumber};
+ghost use Rattle.model.specs.State.{listens};
 ghost use Rattle.model.specs.Step.{listed};
+ghost use Rattle.model.specs.Calls.{poll-call, expiry-call, listen-call, mute-call, clear-call, clear-all-call, reset-call};
+ghost use Rattle.space.specs.Space.{bytes};
 ghost use Rattle.steps.specs.View.{packetOf, syncOf};
-ghost use Rattle.receiver.specs.View.{Memory, memory, with-numbers, with-sync-numbers, with-held, with-heard, with-found, announcementOf, pool-length, longOf, Kept, Opens, Ends, Takes, Steps};
+ghost use Rattle.receiver.specs.View.{Memory, memory, with-numbers, with-sync-numbers, with-held, with-heard, with-found, stateOf, announcementOf, pool-length, longOf, Kept, Opens, Ends, Takes, Steps, Begins, Does, Becomes};
 use discovery::Discovery;
 use discovery::PageAnswer;
 use listening::Listened;
+use model::ClearAnswer;
+use model::ExpiryAnswer;
+use model::ListenAnswer;
+use model::MuteAnswer;
+use model::PollAnswer;
 use model::StepAnswer;
 use pairs::SweepAnswer;
 use rules::Cid;
+use rules::E131_NETWORK_DATA_LOSS_TIMEOUT;
 use sequences::SequenceNumbering;
 use settings::Settings;
 use space::Measured;
 use space::test_announcement;
+use space::test_page_store;
 use space::test_space;
 use space::test_values;
+use space::test_waiting_store;
 use steps::DataPacket;
 use steps::SyncPacket;
 use steps::arrive_data;
@@ -52,6 +64,32 @@ pub struct DiscoveryPacket {
 pub struct Handled {
     pub receiver: Receiver,
     pub answer: StepAnswer,
+}
+
+// What each further call leaves and answers.
+pub struct AfterPoll {
+    pub receiver: Receiver,
+    pub answer: PollAnswer,
+}
+
+pub struct AfterExpiry {
+    pub receiver: Receiver,
+    pub answer: ExpiryAnswer,
+}
+
+pub struct AfterListen {
+    pub receiver: Receiver,
+    pub answer: ListenAnswer,
+}
+
+pub struct AfterMute {
+    pub receiver: Receiver,
+    pub answer: MuteAnswer,
+}
+
+pub struct AfterClear {
+    pub receiver: Receiver,
+    pub answer: ClearAnswer,
 }
 
 // What lengths and poll leave, and whether they end the step.
@@ -559,5 +597,243 @@ impl Receiver {
             name,
             list,
         )
+    }
+
+    // A fresh receiver; but for the listened universes the memory lent later may hold anything.
+    pub fn new(heard: &mut [u16; 1024]) -> Receiver
+        requires { ⌜ length (now heard) ≡ 1024 ⌝ }
+        ensures { λ r. ⌜ ((m : Memory) → Begins r (with-heard (now (heard .exit)) m)) ⌝ }
+    {
+        let sequences = SequenceNumbering::new();
+        let waiting = Waiting::new();
+        let listened = Listened::new(heard);
+        let discovery = Discovery::new();
+        Receiver {
+            sequences,
+            waiting,
+            listened,
+            discovery,
+        }
+    }
+
+    // The sweeps that a step begins with.
+    pub fn poll(
+        self,
+        data_pairs: &mut [[u64; 4]; 1024],
+        data_sources: &mut [[u64; 2]; 1024],
+        sync_pairs: &mut [[u64; 4]; 1024],
+        sync_sources: &mut [[u64; 2]; 1024],
+        rows: &mut [[u64; 9]; 64],
+        store: &mut [u8],
+        settings: Settings,
+        reading: u64,
+    ) -> AfterPoll
+        requires { ⌜ numbered.Kept (self .sequences) (numbered.lent (now «data_pairs») (now «data_sources») (now «sync_pairs») (now «sync_sources»)) × (store-length ≤ length (now store) → held.Kept (self .waiting .count) (now rows) (now store)) ⌝ }
+        ensures { λ r. ⌜ ((m : Memory) → Does (poll-call (length (now (store .entry))) settings reading) pollNumber self (with-numbers (numbered.lent (now («data_pairs» .entry)) (now («data_sources» .entry)) (now («sync_pairs» .entry)) (now («sync_sources» .entry))) (with-held (now (rows .entry)) (now (store .entry)) m)) (r .receiver) (with-numbers (numbered.lent (now («data_pairs» .exit)) (now («data_sources» .exit)) (now («sync_pairs» .exit)) (now («sync_sources» .exit))) (with-held (now (rows .exit)) (now (store .exit)) m)) (r .answer)) ⌝ }
+        ensures lent { λ r. ⌜ held.Lent (now (rows .entry)) (now (store .entry)) (now (rows .exit)) (now (store .exit)) ⌝ }
+    {
+        if let Measured::TooShort(needed) = test_waiting_store(&*store) {
+            return AfterPoll {
+                receiver: self,
+                answer: PollAnswer::TooShort(needed),
+            };
+        }
+        let q = self.sequences;
+        let w = self.waiting;
+        let listened = self.listened;
+        let discovery = self.discovery;
+        let p = poll(
+            q,
+            w,
+            data_pairs,
+            data_sources,
+            sync_pairs,
+            sync_sources,
+            rows,
+            store,
+            settings,
+            reading,
+        );
+        let sequences = p.sequences;
+        let waiting = p.waiting;
+        let said = p.answer;
+        let receiver = Receiver {
+            sequences,
+            waiting,
+            listened,
+            discovery,
+        };
+        let SweepAnswer::TimedOut(cid, universe) = said else {
+            return AfterPoll {
+                receiver: receiver,
+                answer: PollAnswer::Polled,
+            };
+        };
+        AfterPoll {
+            receiver: receiver,
+            answer: PollAnswer::UniverseTimeout(cid, universe),
+        }
+    }
+
+    // The discovery sweep: sources of age 2,500 or more go, partial and listed.
+    pub fn remove_expired_sources(
+        self,
+        sources: &mut [[u64; 6]; 64],
+        names: &mut [[u8; 63]; 64],
+        pages: &mut [[u64; 5]; 64],
+        universes: &mut [u16],
+        reading: u64,
+    ) -> AfterExpiry
+        requires { ⌜ (pool-length ≤ length (now universes) → found.Kept (self .discovery) (now sources) (now names) (now pages) (now universes)) ⌝ }
+        ensures { λ r. ⌜ ((m : Memory) → Does (expiry-call (bytes (now (universes .entry))) reading) expiryNumber self (with-found (now (sources .entry)) (now (names .entry)) (now (pages .entry)) (now (universes .entry)) m) (r .receiver) (with-found (now (sources .exit)) (now (names .exit)) (now (pages .exit)) (now (universes .exit)) m) (r .answer)) ⌝ }
+    {
+        if let Measured::TooShort(needed) = test_page_store(&*universes) {
+            return AfterExpiry {
+                receiver: self,
+                answer: ExpiryAnswer::TooShort(needed),
+            };
+        }
+        let sequences = self.sequences;
+        let waiting = self.waiting;
+        let listened = self.listened;
+        let d = self.discovery;
+        let discovery = d.remove_expired_sources(
+            sources,
+            names,
+            pages,
+            universes,
+            E131_NETWORK_DATA_LOSS_TIMEOUT,
+            reading,
+        );
+        let receiver = Receiver {
+            sequences,
+            waiting,
+            listened,
+            discovery,
+        };
+        AfterExpiry {
+            receiver: receiver,
+            answer: ExpiryAnswer::Swept,
+        }
+    }
+
+    pub fn is_listening(self, heard: &[u16; 1024], universe: u16) -> bool
+        requires { ⌜ hearing.Kept (self .listened) (now heard) ⌝ }
+        ensures { λ r. ⌜ ((m : Memory) → r ≡ listens universe (stateOf self (with-heard (now (heard .entry)) m) .listened)) ⌝ }
+    {
+        let l = self.listened;
+        l.is_listening(heard, universe)
+    }
+
+    // All are tested for 2 before any is added, then for 11.
+    pub fn listen_universes(self, heard: &mut [u16; 1024], universes: &[u16]) -> AfterListen
+        requires { ⌜ hearing.Kept (self .listened) (now heard) ⌝ }
+        ensures { λ r. ⌜ ((m : Memory) → Does (listen-call (now (universes .entry))) listenNumber self (with-heard (now (heard .entry)) m) (r .receiver) (with-heard (now (heard .exit)) m) (r .answer)) ⌝ }
+    {
+        let sequences = self.sequences;
+        let waiting = self.waiting;
+        let l = self.listened;
+        let discovery = self.discovery;
+        let a = l.listen_universes(heard, universes);
+        let listened = a.listened;
+        let answer = a.answer;
+        let receiver = Receiver {
+            sequences,
+            waiting,
+            listened,
+            discovery,
+        };
+        AfterListen { receiver, answer }
+    }
+
+    // 2, then 3.
+    pub fn mute_universe(self, heard: &mut [u16; 1024], universe: u16) -> AfterMute
+        requires { ⌜ hearing.Kept (self .listened) (now heard) ⌝ }
+        ensures { λ r. ⌜ ((m : Memory) → Does (mute-call universe) muteNumber self (with-heard (now (heard .entry)) m) (r .receiver) (with-heard (now (heard .exit)) m) (r .answer)) ⌝ }
+    {
+        let sequences = self.sequences;
+        let waiting = self.waiting;
+        let l = self.listened;
+        let discovery = self.discovery;
+        let a = l.mute_universe(heard, universe);
+        let listened = a.listened;
+        let answer = a.answer;
+        let receiver = Receiver {
+            sequences,
+            waiting,
+            listened,
+            discovery,
+        };
+        AfterMute { receiver, answer }
+    }
+
+    // Answers whether the universe had waiting data.
+    pub fn clear_waiting_data(
+        self,
+        rows: &mut [[u64; 9]; 64],
+        store: &mut [u8],
+        universe: u16,
+    ) -> AfterClear
+        requires { ⌜ (store-length ≤ length (now store) → held.Kept (self .waiting .count) (now rows) (now store)) ⌝ }
+        ensures { λ r. ⌜ ((m : Memory) → Does (clear-call (length (now (store .entry))) universe) clearNumber self (with-held (now (rows .entry)) (now (store .entry)) m) (r .receiver) (with-held (now (rows .exit)) (now (store .exit)) m) (r .answer)) ⌝ }
+        ensures lent { λ r. ⌜ held.Lent (now (rows .entry)) (now (store .entry)) (now (rows .exit)) (now (store .exit)) ⌝ }
+    {
+        if let Measured::TooShort(needed) = test_waiting_store(&*store) {
+            return AfterClear {
+                receiver: self,
+                answer: ClearAnswer::TooShort(needed),
+            };
+        }
+        let sequences = self.sequences;
+        let w = self.waiting;
+        let listened = self.listened;
+        let discovery = self.discovery;
+        let c = w.clear_waiting_data(rows, store, universe);
+        let waiting = c.waiting;
+        let receiver = Receiver {
+            sequences,
+            waiting,
+            listened,
+            discovery,
+        };
+        AfterClear {
+            receiver: receiver,
+            answer: ClearAnswer::Cleared(c.held),
+        }
+    }
+
+    // No memory is touched: the waiting data counts for nothing from now on.
+    pub fn clear_all_waiting_data(self) -> Receiver
+        ensures { λ r. ⌜ ((m : Memory) → Becomes clear-all-call self r m) ⌝ }
+    {
+        let sequences = self.sequences;
+        let w = self.waiting;
+        let listened = self.listened;
+        let discovery = self.discovery;
+        let waiting = w.clear_all_waiting_data();
+        Receiver {
+            sequences,
+            waiting,
+            listened,
+            discovery,
+        }
+    }
+
+    // Both pair tables and both discovery lists are forgotten; waiting data stays.
+    pub fn reset_sources(self) -> Receiver
+        ensures { λ r. ⌜ ((m : Memory) → Becomes reset-call self r m) ⌝ }
+    {
+        let q = self.sequences;
+        let waiting = self.waiting;
+        let listened = self.listened;
+        let d = self.discovery;
+        let sequences = q.clear();
+        let discovery = d.clear();
+        Receiver {
+            sequences,
+            waiting,
+            listened,
+            discovery,
+        }
     }
 }
