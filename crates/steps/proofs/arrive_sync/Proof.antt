@@ -10,7 +10,6 @@ use Rattle.steps.proofs.arrive_sync.Tie as tie
 use Rattle.steps.proofs.arrive_sync.Reads as reads
 use Rattle.steps.proofs.arrive_sync.Lts as lts
 use Rattle.pairs.proofs.SyncTable.check_seq_number.Reads as check-seq-number-reads
-use Rattle.steps.proofs.is_accepted.Reads as is-accepted-reads
 use Rattle.steps.proofs.release_answer.Reads as release-answer-reads
 use Rattle.steps.proofs.stop_answer.Reads as stop-answer-reads
 use Rattle.waiting.proofs.Waiting.rtrv_waiting_data.Reads as rtrv-waiting-data-reads
