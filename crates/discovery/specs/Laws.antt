@@ -10,7 +10,7 @@ use lib.Dec.{eqb}
 use Rattle.table.specs.Cases.{split, clash, found, missing}
 use Rattle.table.specs.Table.{keep, any, pass}
 use Rattle.rules.specs.declared.Cid.{Cid}
-use Rattle.rules.specs.Cid.{same, same-refl, same-path}
+use Rattle.rules.specs.Cid.{same, same-refl, same-path, same-not}
 use Rattle.discovery.specs.Discovery.{Source, Discovered, Announcement, lookup, drop-source, relisted, updated, complete, extended, begun, Note, begin, extend, list, noted, noting, told, taken, cut, ended, current, swept, Once, Ordered}
 
 -- ── the test of a CID ──
@@ -25,9 +25,6 @@ same-sym a b =
     (λ h. split (same b a)
     (λ g. let q = ap (λ (x : Cid). same a x) (same-path b a g) ∙ same-refl a in clash q h)
     (λ g. h ∙ sym g))
-
-pub same-not : (a b : Cid) → a ≢ b → same a b ≡ false
-same-not a b n = split (same a b) (λ h. absurd (n (same-path a b h))) (λ h. h)
 
 -- ── a source extended ──
 -- "The first last-page value and first name are kept"

@@ -1,9 +1,9 @@
 -- Document 01, 'What stops a call': the number and the values of each answer. 0 is a call that nothing stopped.
 -- Assumes nothing.
-use mathlib.Core.Bool.{Bool, true, false}
 use mathlib.Core.List.{List, [], _∷_}
 use Prim.Native.Nat.{ℕ}
 use Rattle.rules.specs.Answer.{Value, number, integer, source, name}
+use Rattle.waiting.specs.Records.{bit}
 use Rattle.model.specs.declared.StepAnswer.{StepAnswer}
 use Rattle.model.specs.declared.StepAnswer.the-variants as says
 use Rattle.model.specs.declared.PollAnswer.{PollAnswer}
@@ -91,10 +91,6 @@ abbrev pub muteValues : MuteAnswer → List Value
 muteValues mute.Muted = []
 muteValues (mute.IllegalUniverse u) = number u ∷ []
 muteValues (mute.UniverseNotRegistered u) = number u ∷ []
-
-abbrev pub bit : Bool → ℕ
-bit true = 1
-bit false = 0
 
 abbrev pub clearNumber : ClearAnswer → ℕ
 clearNumber (clear.Cleared b) = 0

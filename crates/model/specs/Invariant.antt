@@ -31,7 +31,7 @@ use Rattle.discovery.specs.Kept as discovery-laws
 use Rattle.model.specs.declared.StepAnswer.{StepAnswer}
 use Rattle.model.specs.declared.ListenAnswer.{ListenAnswer}
 use Rattle.model.specs.declared.ListenAnswer.the-variants as listening
-use Rattle.model.specs.Packet.{DataPacket, SyncPacket, Packet, data-packet, sync-packet, discovery-packet, over, first-of, too-long}
+use Rattle.model.specs.Packet.{DataPacket, SyncPacket, Packet, data-packet, sync-packet, discovery-packet, over, too-long}
 use Rattle.model.specs.State.{State, fresh, listens, itself}
 use Rattle.model.specs.Step.{Space, Outcome, outcome, with-data, with-sync, with-waiting, with-listened, with-discovered, most-listened, illegal, joined-by, listen-all, too-short, short, poll-waiting, poll-sync, poll, if-accepted, release, terminated, unsynchronised, stored, heard, synchronised, accepted, data-arrival, data-step, synchronise, sync-arrival, sync-step, discovery-step, packet-step, polled, measured, step, dmx, data-pair, sync-pair, known}
 use Rattle.model.specs.Calls.{poll-call, polled-by, expiry-call, listen-call, muted, mute-call, clear-call, clear-all-call, reset-call, Call, on-packet, on-poll, on-expiry, on-listen, on-mute, on-ask, on-clear, on-clear-all, on-reset, call, run}

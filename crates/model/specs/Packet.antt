@@ -7,6 +7,7 @@ use Prim.Native.Nat.{ℕ}
 use lib.Dec.{ltb}
 use lib.ListN.{length}
 use Rattle.rules.specs.declared.Cid.{Cid}
+use Rattle.rules.specs.Answer.{first-of}
 use Rattle.merge.specs.Merge.{most-values}
 use Rattle.discovery.specs.Discovery.{Announcement, most-name, most-universes}
 
@@ -37,10 +38,6 @@ pub data Packet : Type 0 where
 -- "values over 513, name over 63, discovery list over 512 | 1 | length"; "name before list"
 unfoldable pub over : ℕ → List ℕ → Option ℕ
 over most part = cond (ltb most (length part)) (some (length part)) none
-
-abbrev pub first-of : Option ℕ → Option ℕ → Option ℕ
-first-of none b = b
-first-of (some a) b = some a
 
 unfoldable pub too-long : Packet → Option ℕ
 too-long (data-packet d) = over most-values (d .values)

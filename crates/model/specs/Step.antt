@@ -10,6 +10,7 @@ use lib.ListN.{length}
 use Rattle.table.specs.Table.{store}
 use Rattle.rules.specs.declared.Cid.{Cid}
 use Rattle.rules.specs.Universe.{legal}
+use Rattle.rules.specs.Answer.{first-of}
 use Rattle.settings.specs.declared.Settings.{Settings}
 use Rattle.pairs.specs.Table as pairs
 use Rattle.pairs.specs.declared.Pair.{Pair}
@@ -30,7 +31,7 @@ use Rattle.model.specs.declared.StepAnswer.{StepAnswer}
 use Rattle.model.specs.declared.StepAnswer.the-variants as says
 use Rattle.model.specs.declared.ListenAnswer.{ListenAnswer}
 use Rattle.model.specs.declared.ListenAnswer.the-variants as listen
-use Rattle.model.specs.Packet.{DataPacket, SyncPacket, Packet, data-packet, sync-packet, discovery-packet, too-long, first-of}
+use Rattle.model.specs.Packet.{DataPacket, SyncPacket, Packet, data-packet, sync-packet, discovery-packet, too-long}
 use Rattle.model.specs.State.{State, itself, listens}
 
 -- what a step leaves, answers and releases

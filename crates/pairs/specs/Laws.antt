@@ -16,7 +16,7 @@ use Rattle.table.specs.Table.{keep, any, find, store, remove, Ascending, Under,
 use Rattle.table.specs.Table.{find-store-same, find-store-other, find-keep, find-remove-other, find-remove-same, remove-absent, remove-keep}
 use Rattle.table.specs.Table.{ascending-store, ascending-keep, ascending-remove, length-store-new, length-store-known, store-store, remove-store, remove-remove, keep-store, keep-remove}
 use Rattle.rules.specs.declared.Cid.{Cid}
-use Rattle.rules.specs.Cid.{same, before, cid-order, same-refl, same-path}
+use Rattle.rules.specs.Cid.{same, before, cid-order, same-refl, same-path, same-not}
 use Rattle.rules.specs.Age.{expired}
 use Rattle.rules.specs.Sequence.{difference, refused}
 use Rattle.settings.specs.declared.SourceLimit.{SourceLimit}
@@ -26,10 +26,7 @@ use Rattle.pairs.specs.declared.Checked.the-variants.{Accepted, Universe
 use Rattle.pairs.specs.Table.{last-noted, Key, keyOf, key-before, key-order, itself, Table, capacity, empty, pairAt, has, listed, leave, without, live, swept, lowest, noted, told, sweep}
 use Rattle.pairs.specs.Table.{recorded, reached, source-stop, unknown, full, sequence-stop, stop, settle, admit, after-sweep, check, Ordered}
 
--- ── CIDs and keys that differ ──
-pub same-not : (a b : Cid) → a ≢ b → same a b ≡ false
-same-not a b n = split (same a b) (λ h. absurd (n (same-path a b h))) (λ h. h)
-
+-- ── keys that differ ──
 pub key-apart : (j k : Key) → j .cid ≢ k .cid → j ≢ k
 key-apart j k n e = n (ap (λ (k : Key). k .cid) e)
 

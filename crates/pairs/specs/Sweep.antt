@@ -17,13 +17,13 @@ use Rattle.table.specs.Table.{keep, any, Ascending, Under, keep-map}
 use Rattle.table.specs.Place.{prefix, drop-map, append-map}
 use Rattle.table.specs.Arrays.{next, untouched, compact-keep, compact-drop}
 use Rattle.rules.specs.declared.Cid.{Cid}
-use Rattle.rules.specs.Cid.{same, before, cid-order, same-refl}
+use Rattle.rules.specs.Cid.{same, before, cid-order, same-refl, same-not}
 use Rattle.rules.specs.Age.{expired}
 use Rattle.pairs.specs.declared.Pair.{Pair}
 use Rattle.pairs.specs.declared.SweepAnswer.{SweepAnswer}
 use Rattle.pairs.specs.declared.SweepAnswer.the-variants.{Quiet, TimedOut}
 use Rattle.pairs.specs.Table.{Key, key, keyOf, key-before, itself, has, live, lowest, later, last-noted, noted}
-use Rattle.pairs.specs.Laws.{same-not, stale}
+use Rattle.pairs.specs.Laws.{stale}
 use Rattle.pairs.specs.View.{Rows, cidOf, pairOf, sourcesOf, row-before, starts, lapsed, older, noteOf}
 use Rattle.pairs.specs.Rows.{by-first-not}
 

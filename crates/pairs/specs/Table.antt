@@ -14,7 +14,7 @@ use Rattle.rules.specs.declared.Cid.{Cid}
 use Rattle.rules.specs.Cid.{same, before, cid-order}
 use Rattle.rules.specs.Age.{expired}
 use Rattle.rules.specs.Sequence.{difference, refused}
-use Rattle.rules.specs.Answer.{Value, number, integer, source}
+use Rattle.rules.specs.Answer.{Value, number, integer, source, first-of}
 use Rattle.settings.specs.declared.SourceLimit.{SourceLimit}
 use Rattle.settings.specs.declared.SourceLimit.the-variants.{Unlimited, AtMost}
 use Rattle.pairs.specs.declared.Pair.{Pair}
@@ -155,10 +155,6 @@ sequence-stop arriving (some q) =
     cond (refused (difference arriving (q .sequence))) (some (OutOfSequence arriving (q .sequence) (difference arriving (q .sequence)))) none
 
 -- what stops an arrival after the sweep, in the order of rules 2 to 4
-abbrev pub first-of : Option Checked → Option Checked → Option Checked
-first-of none b = b
-first-of (some a) b = some a
-
 unfoldable pub stop : SourceLimit → Pair → Table → Option Checked
 stop limit p t =
     first-of (source-stop limit (p .cid) t)

@@ -14,7 +14,7 @@ use Rattle.table.specs.Place.{place}
 use Rattle.rules.specs.declared.Cid.{Cid}
 use Rattle.rules.specs.Cid.{same, before}
 use Rattle.rules.specs.Age.{expired}
-use Rattle.rules.specs.Answer.{Value, number, source}
+use Rattle.rules.specs.Answer.{Value, number, source, first-of}
 use Rattle.pairs.specs.declared.Pair.{Pair}
 use Rattle.pairs.specs.declared.PairTable.{PairTable}
 use Rattle.pairs.specs.declared.Found.{Found}
@@ -23,7 +23,7 @@ use Rattle.pairs.specs.declared.Checked.{Checked}
 use Rattle.pairs.specs.declared.Checked.the-variants.{Accepted, UniverseTimeout, SourcesExceeded, OutOfSequence, PairsFull, SourceWithoutPairs}
 use Rattle.pairs.specs.declared.SweepAnswer.{SweepAnswer}
 use Rattle.pairs.specs.declared.SweepAnswer.the-variants.{Quiet, TimedOut}
-use Rattle.pairs.specs.Table.{Key, keyOf, key-before, itself, Table, capacity, empty, pairAt, has, without, unknown, first-of, sequence-stop, Ordered}
+use Rattle.pairs.specs.Table.{Key, keyOf, key-before, itself, Table, capacity, empty, pairAt, has, without, unknown, sequence-stop, Ordered}
 
 abbrev pub Rows : Type 0
 Rows = List (List ℕ)
@@ -179,6 +179,7 @@ pub record NewSource (t : PairTable) (pairs sources : Rows) (p : Pair) : Type 0 
   pub kept : Kept t pairs sources
   pub missing : find before itself (p .cid) (sourcesOf (t .«source_count») sources) ≡ none
 
+-- nothing stopped the arrival
 abbrev pub accepted : Checked → Bool
 accepted Accepted = true
 accepted (UniverseTimeout c u) = false

@@ -109,7 +109,8 @@ fn is_reached(limit: SourceLimit, n: usize) -> bool
     }
 }
 
-fn is_accepted(answer: Checked) -> bool
+// Nothing stopped the arrival.
+pub fn is_accepted(answer: Checked) -> bool
     ensures { λ r. ⌜ r ≡ accepted answer ⌝ }
 {
     match answer {

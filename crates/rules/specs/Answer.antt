@@ -1,5 +1,6 @@
--- What a call returns besides its number: the values of document 01's column 'Returned'.
+-- What a call returns besides its number: the values of document 01's column 'Returned'; and tests in their order.
 -- Assumes nothing.
+use mathlib.Core.Option.{Option, none, some}
 use mathlib.Core.List.{List}
 use Prim.Native.Nat.{ℕ}
 use lib.IntN.{ℤ}
@@ -14,3 +15,8 @@ pub data Value : Type 0 where
   source : Cid → Value
   -- a source's name, as bytes
   name : List ℕ → Value
+
+-- of two tests in their order, what the first says, else the second
+abbrev pub first-of : {A : Type 0} → Option A → Option A → Option A
+first-of none b = b
+first-of (some a) b = some a

@@ -1,6 +1,7 @@
 -- A source's CID: 16 bytes, held as two words, most significant first.
 -- Assumes nothing.
 use mathlib.Core.Path.{_≡_, refl, sym, ap, _∙_}
+use mathlib.Core.Logic.{_≢_}
 use mathlib.Core.Bool.{Bool, true, false, cond, _&&_}
 use mathlib.Core.List.{List, [], _∷_, _++_}
 use Prim.Native.Nat.{ℕ, zero, suc, _<_, _≤_, _^_}
@@ -47,6 +48,10 @@ same-path a b h =
     let q = eqb-true (a .lo) (b .lo) (rw e at h) in
     λ i. record { hi = p i; lo = q i })
     (λ e. let z : false ≡ true = rw e at h in cc)
+
+-- and not where they differ
+pub same-not : (a b : Cid) → a ≢ b → same a b ≡ false
+same-not a b n = split (same a b) (λ h. absurd (n (same-path a b h))) (λ h. h)
 
 bytes-take : (n : ℕ) (l : List ℕ) → Bytes l → Bytes (take n l)
 bytes-take zero l h = tt

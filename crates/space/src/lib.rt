@@ -1,7 +1,8 @@
 // Document 01, 'The receiver', 1: the lengths that a step tests before all else, and those that a further call tests.
 ghost use mathlib.Core.Path.{_≡_};
 ghost use lib.ListN.{length};
-ghost use Rattle.model.specs.Packet.{DataPacket, over, first-of};
+ghost use Rattle.rules.specs.Answer.{first-of};
+ghost use Rattle.model.specs.Packet.{over};
 ghost use Rattle.model.specs.Step.{too-short, short, waiting-bytes, page-bytes};
 ghost use Rattle.merge.specs.Merge.{most-values};
 ghost use Rattle.discovery.specs.Discovery.{most-name, most-universes};

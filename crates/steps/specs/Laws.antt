@@ -47,7 +47,8 @@ use Rattle.sequences.specs.View as numbered
 use Rattle.sequences.specs.Laws.{answer-some, answer-none}
 use Rattle.sequences.specs.Sequences.{Numbers, numbers, timeouts, timeouts-data, timeouts-sync}
 use Rattle.pairs.specs.View as counted
-use Rattle.steps.specs.View.{Rows, packetOf, dataOf, Lent, lentOf, waits, hears, Releases, Ready, Holds, Accepts, Counted, rowsOf, counts, Kept-counted, taken, releaseSaid, Arrives, Synchronises, Polls}
+use Rattle.pairs.specs.View.{Rows}
+use Rattle.steps.specs.View.{packetOf, dataOf, Lent, lentOf, waits, hears, Releases, Ready, Holds, Accepts, Counted, rowsOf, counts, Kept-counted, releaseSaid, Arrives, Synchronises, Polls}
 
 -- one record
 one-record : (d : Dmx) → records (d ∷ []) ≡ encode d
@@ -171,7 +172,7 @@ module _ (S : Settings) (now : ℕ) (d : model.DataPacket) (m : Lent) (out : Lis
   }
 
 -- ── arrivals ──
-stays : (a : Checked) (go stay : Outcome) → taken a ≡ false → if-accepted a go stay ≡ stay
+stays : (a : Checked) (go stay : Outcome) → counted.accepted a ≡ false → if-accepted a go stay ≡ stay
 unfolding if-accepted
 stays checked.Accepted go stay e = clash refl e
 stays (checked.UniverseTimeout c u) go stay e = refl
@@ -180,7 +181,7 @@ stays (checked.OutOfSequence a l d) go stay e = refl
 stays checked.PairsFull go stay e = refl
 stays checked.SourceWithoutPairs go stay e = refl
 
-goes : (a : Checked) (go stay : Outcome) → taken a ≡ true → if-accepted a go stay ≡ go
+goes : (a : Checked) (go stay : Outcome) → counted.accepted a ≡ true → if-accepted a go stay ≡ go
 unfolding if-accepted
 goes checked.Accepted go stay e = refl
 goes (checked.UniverseTimeout c u) go stay e = clash e refl
@@ -201,7 +202,7 @@ module _ (S : Settings) (now : ℕ) (d : model.DataPacket) (k k′ : Counted) (a
       let b : check (S .«source_limit») (S .«announce_timeout») (data-pair now d) (s .data-pairs) .1 ≡ a = ap (λ (y : Table × Checked). y .1) x ∙ sym (f .answer-is) in
       λ i. if-accepted (b i) (accepted S now d (with-data (t i) s)) (outcome (with-data (t i) s) (stopped (b i)))
 
-  pub arrives-accepted : (m m′ : Lent) (out out′ : List ℕ) (w : StepAnswer) → taken a ≡ true → Accepts S now d m out m′ out′ w
+  pub arrives-accepted : (m m′ : Lent) (out out′ : List ℕ) (w : StepAnswer) → counted.accepted a ≡ true → Accepts S now d m out m′ out′ w
       → Arrives S now d k m out k′ m′ out′ w
   arrives-accepted m m′ out out′ w e c = record {
     released = c .released;
@@ -211,7 +212,7 @@ module _ (S : Settings) (now : ℕ) (d : model.DataPacket) (k k′ : Counted) (a
     ready = c .ready;
   }
 
-  pub arrives-stopped : (m : Lent) (out : List ℕ) → taken a ≡ false → entries.Kept (m .count) (m .rows) (m .store) → listening.Kept (m .listened) (m .heard)
+  pub arrives-stopped : (m : Lent) (out : List ℕ) → counted.accepted a ≡ false → entries.Kept (m .count) (m .rows) (m .store) → listening.Kept (m .listened) (m .heard)
       → Arrives S now d k m out k′ m out (stopped a)
   unfolding records
   arrives-stopped m out e kw kl = record {
@@ -256,7 +257,7 @@ module _ (S : Settings) (now : ℕ) (y : model.SyncPacket) (k k′ : Counted) (a
         ∙ release-said (waiting.released now (y .address) (waitingOf n rows store)) (with-waiting (left (y .address) (waitingOf n rows store)) s) c b p q
         ∙ (λ i. record { state = with-waiting (v i) s; answer = releaseSaid c b; released = waiting.released now (y .address) (waitingOf n rows store) })
 
-    pub synchronises : (n′ : ℕ) (rows′ : Rows) (store′ out′ : List ℕ) (c b : ℕ) → taken a ≡ true
+    pub synchronises : (n′ : ℕ) (rows′ : Rows) (store′ out′ : List ℕ) (c b : ℕ) → counted.accepted a ≡ true
         → Yields rows store rows′ store′ n′ (left (y .address) (waitingOf n rows store))
         → Writing (waiting.released now (y .address) (waitingOf n rows store)) out out′ c b
         → Synchronises S now y k n rows store out k′ n′ rows′ store′ out′ (releaseSaid c b)
@@ -269,7 +270,7 @@ module _ (S : Settings) (now : ℕ) (y : model.SyncPacket) (k k′ : Counted) (a
       lent-waiting = v .lent;
     }
 
-    pub synchronises-stopped : taken a ≡ false → entries.Kept n rows store → Synchronises S now y k n rows store out k′ n rows store out (stopped a)
+    pub synchronises-stopped : counted.accepted a ≡ false → entries.Kept n rows store → Synchronises S now y k n rows store out k′ n rows store out (stopped a)
     unfolding records
     synchronises-stopped e kw = record {
       released = [];

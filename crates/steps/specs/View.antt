@@ -2,7 +2,7 @@
 -- Assumes nothing.
 use mathlib.Core.Path.{_≡_}
 use mathlib.Core.List.{List, [], _∷_}
-use mathlib.Core.Bool.{Bool, true, false, cond}
+use mathlib.Core.Bool.{cond}
 use mathlib.Core.Option.{Option}
 use Prim.Native.Nat.{ℕ}
 use lib.Dec.{eqb}
@@ -21,10 +21,8 @@ use Rattle.listening.specs.View.{listenedOf}
 use Rattle.listening.specs.View as listening
 use Rattle.pairs.specs.declared.PairTable.{PairTable}
 use Rattle.pairs.specs.declared.SweepAnswer.{SweepAnswer}
-use Rattle.pairs.specs.declared.Checked.{Checked}
-use Rattle.pairs.specs.declared.Checked.the-variants as checked
 use Rattle.pairs.specs.Table.{Table, Key}
-use Rattle.pairs.specs.View.{tableOf, answerOf}
+use Rattle.pairs.specs.View.{Rows, tableOf, answerOf}
 use Rattle.pairs.specs.View as counted
 use Rattle.sequences.specs.declared.SequenceNumbering.{SequenceNumbering}
 use Rattle.sequences.specs.View as numbered
@@ -35,9 +33,6 @@ use Rattle.model.specs.State.{State}
 use Rattle.model.specs.Step.{Outcome, with-data, with-sync, with-waiting, with-listened, dmx, synchronised, accepted, data-arrival, sync-arrival, poll}
 use Rattle.steps.specs.declared.DataPacket.{DataPacket}
 use Rattle.steps.specs.declared.SyncPacket.{SyncPacket}
-
-abbrev pub Rows : Type 0
-Rows = List (List ℕ)
 
 -- the packets as the model has them
 abbrev pub packetOf : DataPacket → List ℕ → model.DataPacket
@@ -132,15 +127,6 @@ pub record Arrives (S : Settings) (now : ℕ) (d : model.DataPacket) (k : Counte
   pub written : out′ ≡ over (records released) out
   pub kept : Kept-counted k′
   pub ready : Ready m m′
-
--- nothing stopped the arrival
-abbrev pub taken : Checked → Bool
-taken checked.Accepted = true
-taken (checked.UniverseTimeout c u) = false
-taken (checked.SourcesExceeded n) = false
-taken (checked.OutOfSequence a l d) = false
-taken checked.PairsFull = false
-taken checked.SourceWithoutPairs = false
 
 -- what a release answers
 abbrev pub releaseSaid : ℕ → ℕ → StepAnswer

@@ -7,7 +7,7 @@ ghost use Rattle.listening.specs.View as hearing;
 ghost use Rattle.model.specs.Step.{kept, stopped};
 ghost use Rattle.pairs.specs.View as counted;
 ghost use Rattle.sequences.specs.View as numbered;
-ghost use Rattle.steps.specs.View.{packetOf, dataOf, syncOf, lentOf, rowsOf, taken, releaseSaid, Releases, Holds, Accepts, Arrives, Synchronises, Polls};
+ghost use Rattle.steps.specs.View.{packetOf, dataOf, syncOf, lentOf, rowsOf, releaseSaid, Releases, Holds, Accepts, Arrives, Synchronises, Polls};
 use listening::Listened;
 use merge::DmxData;
 use merge::SourceCid;
@@ -17,6 +17,7 @@ use pairs::Checked;
 use pairs::DataTable;
 use pairs::SweepAnswer;
 use pairs::SyncTable;
+use pairs::is_accepted;
 use rules::Cid;
 use rules::DataSequence;
 use rules::SyncSequence;
@@ -214,20 +215,6 @@ pub struct Polled {
     pub answer: SweepAnswer,
 }
 
-// Nothing stopped the arrival.
-pub fn is_accepted(a: Checked) -> bool
-    ensures { λ r. ⌜ r ≡ taken a ⌝ }
-{
-    match a {
-        Checked::Accepted => true,
-        Checked::UniverseTimeout(_, _) => false,
-        Checked::SourcesExceeded(_) => false,
-        Checked::OutOfSequence(_, _, _) => false,
-        Checked::PairsFull => false,
-        Checked::SourceWithoutPairs => false,
-    }
-}
-
 // What stops an arrival, as the step's answer.
 pub fn stop_answer(a: Checked) -> StepAnswer
     ensures { λ r. ⌜ r ≡ stopped a ⌝ }
@@ -284,8 +271,8 @@ pub fn arrive_data(
         reading,
     );
     let next = a.table;
-    let said = a.answer;
-    if is_accepted(said) {
+    let checked = a.answer;
+    if is_accepted(checked) {
         let r = accept_data(
             waiting,
             listened,
@@ -308,7 +295,7 @@ pub fn arrive_data(
             answer: answer,
         };
     }
-    let answer = stop_answer(said);
+    let answer = stop_answer(checked);
     DataArrived {
         data: next,
         waiting: waiting,

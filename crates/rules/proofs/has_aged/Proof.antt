@@ -9,11 +9,9 @@ use Rattle.rules.proofs.has_aged.Reads as reads
 use Rattle.rules.proofs.has_aged.Lts as lts
 use Rattle.rules.proofs.age_of.Reads as age-of-reads
 
--- src/lib.rt:76:13
 age-of-requires : tie.Need-age-of-requires
 age-of-requires c κs = search needs
 
--- src/lib.rt:73:1
 returns : tie.Need-returns
 returns c = ap (leb (c .before .args .time)) (c .age-of .ensures)
 

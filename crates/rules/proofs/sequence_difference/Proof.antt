@@ -13,15 +13,12 @@ use Rattle.rules.proofs.sequence_difference.Lts as lts
 use Rattle.rules.proofs.read_signed.Reads as read-signed-reads
 use Rattle.std.proofs.num.wrapping_sub_u8.Reads as wrapping-sub-u8-reads
 
--- src/lib.rt:51:9
 wrapping-sub-u8-requires : tie.Need-wrapping-sub-u8-requires
 wrapping-sub-u8-requires c κs = search needs
 
--- src/lib.rt:52:5
 read-signed-requires : tie.Need-read-signed-requires
 read-signed-requires c κs = search needs
 
--- src/lib.rt:48:1
 returns : tie.Need-returns
 returns c =
     let v = c .before .before .args in

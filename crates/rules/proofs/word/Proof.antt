@@ -8,63 +8,48 @@ use Rattle.rules.proofs.word.Tie as tie
 use Rattle.rules.proofs.word.Reads as reads
 use Rattle.rules.proofs.word.Lts as lts
 
--- src/lib.rt:92:5
 mul-result : tie.Need-mul-result
 mul-result c = search needs
 
--- src/lib.rt:93:11
 mul-result-2 : tie.Need-mul-result-2
 mul-result-2 c = search needs
 
--- src/lib.rt:92:5
 add-result : tie.Need-add-result
 add-result c = search needs
 
--- src/lib.rt:94:11
 mul-result-3 : tie.Need-mul-result-3
 mul-result-3 c = search needs
 
--- src/lib.rt:92:5
 add-result-2 : tie.Need-add-result-2
 add-result-2 c = search needs
 
--- src/lib.rt:95:11
 mul-result-4 : tie.Need-mul-result-4
 mul-result-4 c = search needs
 
--- src/lib.rt:92:5
 add-result-3 : tie.Need-add-result-3
 add-result-3 c = search needs
 
--- src/lib.rt:96:11
 mul-result-5 : tie.Need-mul-result-5
 mul-result-5 c = search needs
 
--- src/lib.rt:92:5
 add-result-4 : tie.Need-add-result-4
 add-result-4 c = search needs
 
--- src/lib.rt:97:11
 mul-result-6 : tie.Need-mul-result-6
 mul-result-6 c = search needs
 
--- src/lib.rt:92:5
 add-result-5 : tie.Need-add-result-5
 add-result-5 c = search needs
 
--- src/lib.rt:98:11
 mul-result-7 : tie.Need-mul-result-7
 mul-result-7 c = search needs
 
--- src/lib.rt:92:5
 add-result-6 : tie.Need-add-result-6
 add-result-6 c = search needs
 
--- src/lib.rt:92:5
 add-result-7 : tie.Need-add-result-7
 add-result-7 c = search needs
 
--- src/lib.rt:89:1
 returns : tie.Need-returns
 unfolding number
 returns c = omega arith

@@ -1,7 +1,8 @@
 -- One law for each return; the name is tested first.
 -- Assumes nothing.
 use native.Mathlib.Omega.{arith}
-use Rattle.model.specs.Packet.{over, first-of}
+use Rattle.rules.specs.Answer.{first-of}
+use Rattle.model.specs.Packet.{over}
 use Rattle.discovery.specs.Discovery.{most-name, most-universes}
 use Rattle.space.specs.Space.{excess}
 use Rattle.space.specs.Laws.{over-some, over-none}

@@ -10,19 +10,15 @@ use Rattle.steps.proofs.accept_data.Lts as lts
 use Rattle.steps.proofs.hold_packet.Reads as hold-packet-reads
 use Rattle.steps.proofs.release_packet.Reads as release-packet-reads
 
--- src/lib.rt:159:13
 release-packet-requires : tie.Need-release-packet-requires
 release-packet-requires c κs = search needs
 
--- src/lib.rt:161:9
 same-length : tie.Need-same-length
 same-length c = search needs
 
--- src/lib.rt:161:9
 same-length-2 : tie.Need-same-length-2
 same-length-2 c = search needs
 
--- src/lib.rt:161:9
 returns : tie.Need-returns
 returns c =
     let p = c .before .before .before .before .before in
@@ -33,15 +29,12 @@ returns c =
     (p .release-packet .result .waiting .count) (p .release-packet .last .1 .0) (p .release-packet .last .1 .1 .0) (p .release-packet .last .1 .1 .1 .1 .1 .1 .0) (p .release-packet .result .bytes)
     (t .if1 .taken) (s .pre .1) (p .release-packet .ensures)
 
--- src/lib.rt:167:5
 hold-packet-requires : tie.Need-hold-packet-requires
 hold-packet-requires c κs = search needs
 
--- src/lib.rt:143:1
 same-length-3 : tie.Need-same-length-3
 same-length-3 c = search needs
 
--- src/lib.rt:143:1
 returns-2 : tie.Need-returns-2
 returns-2 c =
     let p = c .before .before in

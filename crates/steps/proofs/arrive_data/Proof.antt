@@ -11,30 +11,23 @@ use Rattle.steps.proofs.arrive_data.Reads as reads
 use Rattle.steps.proofs.arrive_data.Lts as lts
 use Rattle.pairs.proofs.DataTable.check_seq_number.Reads as check-seq-number-reads
 use Rattle.steps.proofs.accept_data.Reads as accept-data-reads
-use Rattle.steps.proofs.is_accepted.Reads as is-accepted-reads
 use Rattle.steps.proofs.stop_answer.Reads as stop-answer-reads
 
--- src/lib.rt:276:9
 check-seq-number-requires : tie.Need-check-seq-number-requires
 check-seq-number-requires c κs = search needs
 
--- src/lib.rt:288:8
 is-accepted-requires : tie.Need-is-accepted-requires
 is-accepted-requires c κs = search needs
 
--- src/lib.rt:289:13
 accept-data-requires : tie.Need-accept-data-requires
 accept-data-requires c κs = search needs
 
--- src/lib.rt:293:9
 same-length : tie.Need-same-length
 same-length c = search needs
 
--- src/lib.rt:293:9
 same-length-2 : tie.Need-same-length-2
 same-length-2 c = search needs
 
--- src/lib.rt:293:9
 returns : tie.Need-returns
 returns c =
     let r = c .before .before .before .before .before .before in
@@ -48,11 +41,9 @@ returns c =
     (lentOf (r .accept-data .result .waiting .count) (r .accept-data .result .listened) (r .accept-data .last .1 .1 .0) (r .accept-data .last .1 .1 .1 .0) (r .accept-data .last .1 .1 .1 .1 .0))
     (v .out .now) (r .accept-data .last .1 .1 .1 .1 .1 .1 .1 .1 .1 .0) (r .accept-data .result .answer) (sym (i .is-accepted .ensures) ∙ t .if1 .taken) (r .accept-data .ensures)
 
--- src/lib.rt:300:9
 stop-answer-requires : tie.Need-stop-answer-requires
 stop-answer-requires c κs = search needs
 
--- src/lib.rt:256:1
 returns-2 : tie.Need-returns-2
 returns-2 c =
     let i = c .before .before in

@@ -10,36 +10,28 @@ use Rattle.steps.proofs.arrive_sync.Tie as tie
 use Rattle.steps.proofs.arrive_sync.Reads as reads
 use Rattle.steps.proofs.arrive_sync.Lts as lts
 use Rattle.pairs.proofs.SyncTable.check_seq_number.Reads as check-seq-number-reads
-use Rattle.steps.proofs.is_accepted.Reads as is-accepted-reads
 use Rattle.steps.proofs.release_answer.Reads as release-answer-reads
 use Rattle.steps.proofs.stop_answer.Reads as stop-answer-reads
 use Rattle.waiting.proofs.Waiting.rtrv_waiting_data.Reads as rtrv-waiting-data-reads
 
--- src/lib.rt:327:9
 check-seq-number-requires : tie.Need-check-seq-number-requires
 check-seq-number-requires c κs = search needs
 
--- src/lib.rt:339:8
 is-accepted-requires : tie.Need-is-accepted-requires
 is-accepted-requires c κs = search needs
 
--- src/lib.rt:340:13
 rtrv-waiting-data-requires : tie.Need-rtrv-waiting-data-requires
 rtrv-waiting-data-requires c κs = search needs
 
--- src/lib.rt:342:13
 release-answer-requires : tie.Need-release-answer-requires
 release-answer-requires c κs = search needs
 
--- src/lib.rt:343:9
 same-length : tie.Need-same-length
 same-length c = search needs
 
--- src/lib.rt:343:9
 same-length-2 : tie.Need-same-length-2
 same-length-2 c = search needs
 
--- src/lib.rt:343:9
 returns : tie.Need-returns
 returns c =
     let r = c .before .before .before .before .before .before in
@@ -54,11 +46,9 @@ returns c =
     (r .rtrv-waiting-data .result .waiting .count) (r .rtrv-waiting-data .last .1 .0) (r .rtrv-waiting-data .last .1 .1 .0) (r .rtrv-waiting-data .last .1 .1 .1 .1 .1 .0) (r .rtrv-waiting-data .result .records) (r .rtrv-waiting-data .result .bytes)
     (sym (i .is-accepted .ensures) ∙ t .if1 .taken) (r .rtrv-waiting-data .ensures .0) (r .rtrv-waiting-data .ensures .1))
 
--- src/lib.rt:349:9
 stop-answer-requires : tie.Need-stop-answer-requires
 stop-answer-requires c κs = search needs
 
--- src/lib.rt:310:1
 returns-2 : tie.Need-returns-2
 returns-2 c =
     let i = c .before .before in

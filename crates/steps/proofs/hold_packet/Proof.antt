@@ -18,35 +18,27 @@ use Rattle.steps.proofs.dmx_data.Reads as dmx-data-reads
 use Rattle.steps.proofs.stored_answer.Reads as stored-answer-reads
 use Rattle.waiting.proofs.Waiting.store_waiting_data.Reads as store-waiting-data-reads
 
--- src/lib.rt:112:9
 listen-universe-requires : tie.Need-listen-universe-requires
 listen-universe-requires c κs = search needs
 
--- src/lib.rt:116:39
 enum-known-told : tie.Need-enum-known-told
 enum-known-told c = search needs
 
--- src/lib.rt:124:21
 enum-told : tie.Need-enum-told
 enum-told c = search needs
 
--- src/lib.rt:127:17
 enum-told-2 : tie.Need-enum-told-2
 enum-told-2 c = search needs
 
--- src/lib.rt:128:17
 dmx-data-requires : tie.Need-dmx-data-requires
 dmx-data-requires c κs = search needs
 
--- src/lib.rt:129:17
 store-waiting-data-requires : tie.Need-store-waiting-data-requires
 store-waiting-data-requires c κs = search needs
 
--- src/lib.rt:132:17
 stored-answer-requires : tie.Need-stored-answer-requires
 stored-answer-requires c κs = search needs
 
--- src/lib.rt:98:1
 returns : tie.Need-returns
 returns c =
     let h = c .before .before .before .before in
@@ -55,7 +47,6 @@ returns c =
     holds-illegal (v .settings) (v .reading) (packetOf (v .packet) (v .values .now)) (lentOf (v .waiting .count) (v .listened) (v .rows .now) (v .store .now) (v .heard .now)) (s .pre .0)
     (h .listen-universe .result) (h .listen-universe .last .1 .0) (h .listen-universe .ensures) _ (c .before .told .given .1)
 
--- src/lib.rt:98:1
 returns-2 : tie.Need-returns-2
 returns-2 c =
     let h = c .before .before .before in
@@ -64,11 +55,9 @@ returns-2 c =
     holds-full (v .settings) (v .reading) (packetOf (v .packet) (v .values .now)) (lentOf (v .waiting .count) (v .listened) (v .rows .now) (v .store .now) (v .heard .now)) (s .pre .0)
     (h .listen-universe .result) (h .listen-universe .last .1 .0) (h .listen-universe .ensures) (c .enum-told .given .1)
 
--- src/lib.rt:98:1
 same-length : tie.Need-same-length
 same-length c = search needs
 
--- src/lib.rt:98:1
 returns-3 : tie.Need-returns-3
 returns-3 c =
     let q = c .before .before .before .before in

@@ -10,27 +10,21 @@ use Rattle.steps.proofs.poll.Lts as lts
 use Rattle.sequences.proofs.SequenceNumbering.check_timeouts.Reads as check-timeouts-reads
 use Rattle.waiting.proofs.Waiting.check_waiting_data_timeouts.Reads as check-waiting-data-timeouts-reads
 
--- src/lib.rt:373:9
 check-timeouts-requires : tie.Need-check-timeouts-requires
 check-timeouts-requires c κs = search needs
 
--- src/lib.rt:383:31
 enum-known-said : tie.Need-enum-known-said
 enum-known-said c = search needs
 
--- src/lib.rt:384:53
 enum-told : tie.Need-enum-told
 enum-told c = search needs
 
--- src/lib.rt:384:13
 check-waiting-data-timeouts-requires : tie.Need-check-waiting-data-timeouts-requires
 check-waiting-data-timeouts-requires c κs = search needs
 
--- src/lib.rt:385:9
 same-length : tie.Need-same-length
 same-length c = search needs
 
--- src/lib.rt:385:9
 returns : tie.Need-returns
 returns c =
     let w = c .before .before in
@@ -41,7 +35,6 @@ returns c =
     (k .check-timeouts .result .sequences) (lent (k .check-timeouts .last .1 .0) (k .check-timeouts .last .1 .1 .0) (k .check-timeouts .last .1 .1 .1 .0) (k .check-timeouts .last .1 .1 .1 .1 .0)) (k .check-timeouts .result .answer) (k .check-timeouts .ensures)
     (w .check-waiting-data-timeouts .result .count) (w .check-waiting-data-timeouts .last .1 .0) (w .check-waiting-data-timeouts .last .1 .1 .0) (e .enum-told .given .1) (w .check-waiting-data-timeouts .ensures)
 
--- src/lib.rt:358:1
 returns-2 : tie.Need-returns-2
 returns-2 c =
     let k = c .before .before .before .before in

@@ -6,11 +6,9 @@ use Rattle.steps.proofs.release_answer.Tie as tie
 use Rattle.steps.proofs.release_answer.Reads as reads
 use Rattle.steps.proofs.release_answer.Lts as lts
 
--- src/lib.rt:250:9
 returns : tie.Need-returns
 returns c = simp (eq-eqb _ 0 (c .if1 .taken))
 
--- src/lib.rt:246:1
 returns-2 : tie.Need-returns-2
 returns-2 c = simp (ne-eqb _ 0 (c .if1 .left))
 

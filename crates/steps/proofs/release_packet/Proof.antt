@@ -13,27 +13,21 @@ use Rattle.steps.proofs.dmx_data.Reads as dmx-data-reads
 use Rattle.waiting.proofs.Waiting.clear_waiting_data.Reads as clear-waiting-data-reads
 use Rattle.waiting.proofs.write_record.Reads as write-record-reads
 
--- src/lib.rt:90:9
 clear-waiting-data-requires : tie.Need-clear-waiting-data-requires
 clear-waiting-data-requires c κs = search needs
 
--- src/lib.rt:92:9
 dmx-data-requires : tie.Need-dmx-data-requires
 dmx-data-requires c κs = search needs
 
--- src/lib.rt:93:9
 write-record-requires : tie.Need-write-record-requires
 write-record-requires c κs = search needs
 
--- src/lib.rt:78:1
 same-length : tie.Need-same-length
 same-length c = search needs
 
--- src/lib.rt:78:1
 same-length-2 : tie.Need-same-length-2
 same-length-2 c = search needs
 
--- src/lib.rt:78:1
 returns : tie.Need-returns
 returns c =
     let w = c .before .before in

@@ -10,51 +10,39 @@ use Rattle.steps.proofs.stop_answer.Tie as tie
 use Rattle.steps.proofs.stop_answer.Reads as reads
 use Rattle.steps.proofs.stop_answer.Lts as lts
 
--- src/lib.rt:236:30
 enum-told : tie.Need-enum-told
 enum-told c = search needs
 
--- src/lib.rt:237:34
 enum-known-a : tie.Need-enum-known-a
 enum-known-a c = search needs
 
--- src/lib.rt:238:34
 enum-known-a-2 : tie.Need-enum-known-a-2
 enum-known-a-2 c = search needs
 
--- src/lib.rt:239:32
 enum-known-a-3 : tie.Need-enum-known-a-3
 enum-known-a-3 c = search needs
 
--- src/lib.rt:240:31
 enum-told-2 : tie.Need-enum-told-2
 enum-told-2 c = search needs
 
--- src/lib.rt:241:40
 enum-told-3 : tie.Need-enum-told-3
 enum-told-3 c = search needs
 
--- src/lib.rt:232:1
 returns : tie.Need-returns
 returns c = search needs
 
--- src/lib.rt:232:1
 returns-2 : tie.Need-returns-2
 returns-2 c = sym (ap stopped (c .before .a .given .1))
 
--- src/lib.rt:232:1
 returns-3 : tie.Need-returns-3
 returns-3 c = sym (ap stopped (c .before .a2 .given .1))
 
--- src/lib.rt:232:1
 returns-4 : tie.Need-returns-4
 returns-4 c = rw (toZ-ofZ {w = w8} {z = c .before .a3 .given .0 .1 .1 .0} (record { sfits = c .known-told3 .given .1 .1 .0 .1 })) (sym (ap stopped (c .before .a3 .given .1)))
 
--- src/lib.rt:232:1
 returns-5 : tie.Need-returns-5
 returns-5 c = search needs
 
--- src/lib.rt:232:1
 returns-6 : tie.Need-returns-6
 returns-6 c = search needs
 

@@ -14,79 +14,60 @@ use Rattle.rules.proofs.Cid.from_bytes.Reads as reads
 use Rattle.rules.proofs.Cid.from_bytes.Lts as lts
 use Rattle.rules.proofs.word.Reads as word-reads
 
--- src/lib.rt:106:23
 array-read-word : tie.Need-array-read-word
 array-read-word c = search needs
 
--- src/lib.rt:106:29
 array-read-word-2 : tie.Need-array-read-word-2
 array-read-word-2 c = search needs
 
--- src/lib.rt:106:35
 array-read-word-3 : tie.Need-array-read-word-3
 array-read-word-3 c = search needs
 
--- src/lib.rt:106:41
 array-read-word-4 : tie.Need-array-read-word-4
 array-read-word-4 c = search needs
 
--- src/lib.rt:106:47
 array-read-word-5 : tie.Need-array-read-word-5
 array-read-word-5 c = search needs
 
--- src/lib.rt:106:53
 array-read-word-6 : tie.Need-array-read-word-6
 array-read-word-6 c = search needs
 
--- src/lib.rt:106:59
 array-read-word-7 : tie.Need-array-read-word-7
 array-read-word-7 c = search needs
 
--- src/lib.rt:106:65
 array-read-word-8 : tie.Need-array-read-word-8
 array-read-word-8 c = search needs
 
--- src/lib.rt:106:13
 word-requires : tie.Need-word-requires
 word-requires c κs = search needs
 
--- src/lib.rt:107:23
 array-read-word-9 : tie.Need-array-read-word-9
 array-read-word-9 c = search needs
 
--- src/lib.rt:107:29
 array-read-word-10 : tie.Need-array-read-word-10
 array-read-word-10 c = search needs
 
--- src/lib.rt:107:35
 array-read-word-11 : tie.Need-array-read-word-11
 array-read-word-11 c = search needs
 
--- src/lib.rt:107:42
 array-read-word-12 : tie.Need-array-read-word-12
 array-read-word-12 c = search needs
 
--- src/lib.rt:107:49
 array-read-word-13 : tie.Need-array-read-word-13
 array-read-word-13 c = search needs
 
--- src/lib.rt:107:56
 array-read-word-14 : tie.Need-array-read-word-14
 array-read-word-14 c = search needs
 
--- src/lib.rt:107:63
 array-read-word-15 : tie.Need-array-read-word-15
 array-read-word-15 c = search needs
 
--- src/lib.rt:107:70
 array-read-word-16 : tie.Need-array-read-word-16
 array-read-word-16 c = search needs
 
--- src/lib.rt:107:13
 word-requires-2 : tie.Need-word-requires-2
 word-requires-2 c κs = search needs
 
--- src/lib.rt:103:5
 -- the last eight of sixteen
 low : (b : List ℕ) → length b ≡ 16
     → getD b 8 0 ∷ getD b 9 0 ∷ getD b 10 0 ∷ getD b 11 0 ∷ getD b 12 0 ∷ getD b 13 0 ∷ getD b 14 0 ∷ getD b 15 0 ∷ [] ≡ drop 8 b

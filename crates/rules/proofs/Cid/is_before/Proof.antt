@@ -7,17 +7,14 @@ use Rattle.rules.proofs.Cid.is_before.Tie as tie
 use Rattle.rules.proofs.Cid.is_before.Reads as reads
 use Rattle.rules.proofs.Cid.is_before.Lts as lts
 
--- src/lib.rt:138:13
 returns : tie.Need-returns
 unfolding before-by
 returns c = simp (lt-ltb _ _ (c .if1 .taken))
 
--- src/lib.rt:141:13
 returns-2 : tie.Need-returns-2
 unfolding before-by
 returns-2 c = simp (le-ltb _ _ (c .before .before .before .if1 .left), lt-ltb _ _ (c .if2 .taken))
 
--- src/lib.rt:134:5
 returns-3 : tie.Need-returns-3
 unfolding before-by
 returns-3 c = simp (le-ltb _ _ (c .before .before .before .before .before .if1 .left), le-ltb _ _ (c .before .before .if2 .left))

@@ -6,11 +6,9 @@ use Rattle.rules.proofs.Cid.is_same.Tie as tie
 use Rattle.rules.proofs.Cid.is_same.Reads as reads
 use Rattle.rules.proofs.Cid.is_same.Lts as lts
 
--- src/lib.rt:129:13
 returns : tie.Need-returns
 returns c = simp (ne-eqb _ _ (c .if1 .taken))
 
--- src/lib.rt:125:5
 returns-2 : tie.Need-returns-2
 returns-2 c = simp (eq-eqb _ _ (c .before .before .if1 .left))
 

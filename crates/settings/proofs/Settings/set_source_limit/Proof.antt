@@ -6,11 +6,9 @@ use Rattle.settings.proofs.Settings.set_source_limit.Tie as tie
 use Rattle.settings.proofs.Settings.set_source_limit.Reads as reads
 use Rattle.settings.proofs.Settings.set_source_limit.Lts as lts
 
--- src/lib.rt:118:13
 returns : tie.Need-returns
 returns c = simp (eq-eqb _ 0 (c .if1 .taken))
 
--- src/lib.rt:114:5
 returns-2 : tie.Need-returns-2
 returns-2 c = simp (ne-eqb _ 0 (c .if1 .left))
 
