@@ -1,29 +1,28 @@
 -- One law for each return of the further calls.
 -- Assumes nothing.
 use mathlib.Core.Path.{_≡_, refl, sym, ap, _∙_}
-use mathlib.Core.Bool.{Bool, true, false}
+use mathlib.Core.Bool.{Bool}
 use mathlib.Core.Logic.{_≢_}
 use mathlib.Core.Option.{Option, none, some}
-use mathlib.Core.List.{List, []}
+use mathlib.Core.List.{List}
 use Prim.Native.Nat.{ℕ, _≤_}
 use native.Mathlib.Omega.{arith}
-use lib.ListN.{length, take, length-take}
+use lib.ListN.{length, length-take}
 use Rattle.table.specs.Cases.{split, clash}
 use Rattle.rules.specs.declared.Cid.{Cid}
 use Rattle.rules.specs.Age.{data-loss}
 use Rattle.rules.specs.Universe.{legal}
 use Rattle.settings.specs.declared.Settings.{Settings}
 use Rattle.pairs.specs.View.{Rows}
-use Rattle.pairs.specs.Table.{Table, Key, key}
+use Rattle.pairs.specs.Table.{Key, key}
 use Rattle.pairs.specs.declared.SweepAnswer.{SweepAnswer}
 use Rattle.pairs.specs.declared.SweepAnswer.the-variants.{Quiet, TimedOut}
 use Rattle.sequences.specs.declared.SequenceNumbering.{SequenceNumbering}
 use Rattle.sequences.specs.View as numbered
 use Rattle.sequences.specs.Laws.{answer-some, answer-none}
-use Rattle.merge.specs.Merge.{Dmx}
 use Rattle.waiting.specs.declared.Waiting.{Waiting}
 use Rattle.waiting.specs.Waiting.{cleared}
-use Rattle.waiting.specs.Entries.{waitingOf, store-length}
+use Rattle.waiting.specs.Entries.{waitingOf}
 use Rattle.waiting.specs.Calls.{Yields, Empty}
 use Rattle.listening.specs.declared.Listened.{Listened}
 use Rattle.listening.specs.declared.ListenDone.{ListenDone}
@@ -31,8 +30,8 @@ use Rattle.listening.specs.declared.MuteDone.{MuteDone}
 use Rattle.listening.specs.View.{listenedOf, Listens, Mutes, Fresh}
 use Rattle.listening.specs.View as listening
 use Rattle.discovery.specs.declared.Discovery.{Discovery}
-use Rattle.discovery.specs.Discovery.{Discovered, swept}
-use Rattle.discovery.specs.View.{discoveredOf, Holds, Emptied}
+use Rattle.discovery.specs.Discovery.{swept}
+use Rattle.discovery.specs.View.{Holds, Emptied}
 use Rattle.space.specs.Space.{bytes}
 use Rattle.model.specs.declared.PollAnswer.the-variants as polling
 use Rattle.model.specs.declared.ExpiryAnswer.the-variants as expiry
@@ -42,8 +41,8 @@ use Rattle.model.specs.declared.MuteAnswer.{MuteAnswer}
 use Rattle.model.specs.declared.MuteAnswer.the-variants as muting
 use Rattle.model.specs.declared.ClearAnswer.the-variants as clearing
 use Rattle.model.specs.Answer.{pollNumber, expiryNumber, listenNumber, muteNumber, clearNumber}
-use Rattle.model.specs.State.{State, listens, fresh}
-use Rattle.model.specs.Step.{short, waiting-bytes, page-bytes, poll, listen-all, with-waiting, with-listened, with-discovered}
+use Rattle.model.specs.State.{State, listens}
+use Rattle.model.specs.Step.{short, waiting-bytes, page-bytes, poll, with-waiting, with-listened, with-discovered}
 use Rattle.model.specs.Calls.{polled-by, poll-call, expiry-call, listen-call, muted, mute-call, clear-call, clear-all-call, reset-call}
 use Rattle.steps.specs.View.{Polls}
 use Rattle.steps.specs.Laws.{refused-list}

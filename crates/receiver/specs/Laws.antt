@@ -1,9 +1,9 @@
 -- One law for each return of the receiver's calls.
 -- Assumes nothing.
-use mathlib.Core.Path.{_≡_, refl, sym, ap, _∙_, subst}
+use mathlib.Core.Path.{_≡_, refl, sym, ap, _∙_}
 use mathlib.Core.Bool.{Bool, true, false, cond, not, _&&_}
 use mathlib.Core.Option.{Option, none, some}
-use mathlib.Core.List.{List, [], _∷_}
+use mathlib.Core.List.{List, []}
 use mathlib.Core.Logic.{_⊎_, inl, inr}
 use Prim.Native.Nat.{ℕ, _+_, _≤_}
 use native.Mathlib.Omega.{arith}
@@ -12,8 +12,9 @@ use lib.ListN.{length}
 use borrow.Author.Tests.{ltb-false}
 use Rattle.table.specs.Cases.{split, found, clash}
 use Rattle.rules.specs.declared.Cid.{Cid}
+use Rattle.rules.specs.Answer.{first-of}
 use Rattle.settings.specs.declared.Settings.{Settings}
-use Rattle.pairs.specs.View.{Rows, answerOf}
+use Rattle.pairs.specs.View.{Rows}
 use Rattle.pairs.specs.Table.{Key, key, pairAt}
 use Rattle.pairs.specs.declared.DataTable.{DataTable}
 use Rattle.pairs.specs.declared.SyncTable.{SyncTable}
@@ -24,8 +25,8 @@ use Rattle.sequences.specs.Sequences.{numbers, removed}
 use Rattle.sequences.specs.View as numbered
 use Rattle.sequences.specs.Laws.{answer-some, answer-none}
 use Rattle.waiting.specs.declared.Waiting.{Waiting}
-use Rattle.waiting.specs.Records.{records, over, most-bytes}
-use Rattle.waiting.specs.Entries.{waitingOf, store-length, lent-none, lent-then}
+use Rattle.waiting.specs.Records.{records, most-bytes}
+use Rattle.waiting.specs.Entries.{store-length, lent-none, lent-then}
 use Rattle.waiting.specs.Entries as waiting
 use Rattle.listening.specs.declared.Listened.{Listened}
 use Rattle.discovery.specs.declared.Discovery.{Discovery}
@@ -40,14 +41,14 @@ use Rattle.space.specs.declared.Measured.the-variants as measured
 use Rattle.space.specs.Space.{spaceOf, shortage, excess}
 use Rattle.model.specs.declared.StepAnswer.{StepAnswer}
 use Rattle.model.specs.declared.StepAnswer.the-variants as says
-use Rattle.model.specs.Packet.{DataPacket, SyncPacket, Packet, data-packet, sync-packet, discovery-packet, first-of, too-long, over as longer}
+use Rattle.model.specs.Packet.{DataPacket, SyncPacket, Packet, data-packet, sync-packet, discovery-packet, too-long, over as longer}
 use Rattle.model.specs.State.{State, listens}
 use Rattle.model.specs.Step as model
-use Rattle.model.specs.Step.{Space, Outcome, outcome, short, too-short, waiting-bytes, page-bytes, poll, polled, data-step, terminated, known, sync-step, discovery-step, listed, packet-step, step}
+use Rattle.model.specs.Step.{Space, outcome, short, too-short, page-bytes, poll, polled, data-step, terminated, sync-step, discovery-step, listed, packet-step, step}
 use Rattle.steps.specs.View.{Polls, Arrives, Synchronises, rowsOf, lentOf}
 use Rattle.receiver.specs.declared.Receiver.{Receiver}
 use Rattle.receiver.specs.declared.DiscoveryPacket.{DiscoveryPacket}
-use Rattle.receiver.specs.View.{Memory, memory, numbersIn, with-numbers, with-sync-numbers, with-held, with-heard, with-found, stateOf, spaceIn, pool-length, Kept, longOf, announcementOf, Opens, Ends, Takes, Steps}
+use Rattle.receiver.specs.View.{Memory, numbersIn, with-numbers, with-sync-numbers, with-held, with-heard, with-found, stateOf, spaceIn, pool-length, Kept, longOf, announcementOf, Opens, Ends, Takes, Steps}
 
 none-some {ℓ} : {C : Type ℓ} {A : Type 0} {a : A} → none ≡ some a → C
 none-some e = let z : _≡_ {A = ℕ} 0 1 = cc in absurd (omega arith)

@@ -3,11 +3,12 @@
 use mathlib.Core.Path.{_≡_}
 use mathlib.Core.Bool.{Bool, true, false, not, _||_}
 use mathlib.Core.Option.{Option, none, some}
-use mathlib.Core.List.{List, []}
+use mathlib.Core.List.{List}
 use Prim.Native.Nat.{ℕ, _≤_}
 use lib.Dec.{eqb}
 use lib.ListN.{length}
 use Rattle.rules.specs.declared.Cid.{Cid}
+use Rattle.rules.specs.Answer.{first-of}
 use Rattle.settings.specs.declared.Settings.{Settings}
 use Rattle.pairs.specs.View.{Rows}
 use Rattle.sequences.specs.View as numbered
@@ -24,9 +25,9 @@ use Rattle.space.specs.declared.Measured.{Measured}
 use Rattle.space.specs.declared.Measured.the-variants as measured
 use Rattle.space.specs.Space.{spaceOf}
 use Rattle.model.specs.declared.StepAnswer.{StepAnswer}
-use Rattle.model.specs.Packet.{DataPacket, Packet, first-of, too-long}
+use Rattle.model.specs.Packet.{DataPacket, Packet, too-long}
 use Rattle.model.specs.State.{State, fresh}
-use Rattle.model.specs.Step.{Space, Outcome, outcome, too-short, terminated, packet-step, step}
+use Rattle.model.specs.Step.{Space, outcome, too-short, terminated, packet-step, step}
 use Rattle.receiver.specs.declared.Receiver.{Receiver}
 use Rattle.receiver.specs.declared.DiscoveryPacket.{DiscoveryPacket}
 

@@ -1,7 +1,6 @@
 -- The test by cases.
 -- Assumes nothing.
 use Rattle.receiver.specs.Laws.{unwanted-off, unwanted-on}
-use borrow.Author.Needs.{needs}
 use Rattle.receiver.proofs.is_unwanted.Statement.{statement}
 use Rattle.receiver.proofs.is_unwanted.Tie as tie
 

@@ -1,6 +1,6 @@
 -- Lengths stop the step first; the poll ends it or lets it go on. Each return has its law.
 -- Assumes nothing.
-use mathlib.Core.Path.{refl, sym, ap, _∙_}
+use mathlib.Core.Path.{refl, ap}
 use denote.Enum.Declared.{tagOf}
 use Rattle.space.proofs.Measured as measures
 use Rattle.sequences.specs.View.{lent}

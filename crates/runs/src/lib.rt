@@ -1,0 +1,1 @@
+// Demand 3 for runs of the code: theorems only.
