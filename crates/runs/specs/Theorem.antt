@@ -1,5 +1,6 @@
 -- A run of the code is the definition's run: by the contracts, step for step. So demand 3 holds of the code.
 -- Assumes nothing.
+use mathlib.Core.Logic.{_≢_}
 use mathlib.Core.Path.{_≡_, refl, sym, ap, _∙_, subst}
 use mathlib.Core.Bool.{Bool, true, false, not, cond, _&&_}
 use mathlib.Core.Option.{Option, none, some}
@@ -167,18 +168,52 @@ frank-step m S now p s =
 front : (bytes out : List ℕ) (n : ℕ) → n ≡ length bytes → take n (over bytes out) ≡ bytes
 front bytes out n e = ap (λ (k : ℕ). take k (over bytes out)) e ∙ take-append-seam bytes (drop (length bytes) out)
 
+-- the answer names the length of what the step releases
+named-length : {S : Settings} (h : Handling S) → byte-length (h .answer) ≡ length (records (h .contract .released))
+named-length {S} h =
+    let c = h .contract in
+    let f = frank-step (spaceIn (h .lent) (h .out)) S (h .timed .reading) (h .timed .packet) (stateOf (h .receiver) (h .lent)) .length-is in
+    sym (ap (λ (o : Outcome). byte-length (o .answer)) (c .outcome-is)) ∙ f ∙ ap (λ (o : Outcome). length (records (o .released))) (c .outcome-is)
+
 -- what is seen of a step is the definition's answer
 seen-step : {S : Settings} (h : Handling S)
     → answered (h .timed .packet) (step (spaceIn (h .lent) (h .out)) S (h .timed .reading) (h .timed .packet) (stateOf (h .receiver) (h .lent))) ≡ seen (h .timed .packet) (h .answer) (h .out′)
 seen-step {S} h =
     let c = h .contract in
-    let f = frank-step (spaceIn (h .lent) (h .out)) S (h .timed .reading) (h .timed .packet) (stateOf (h .receiver) (h .lent)) .length-is in
-    let n : byte-length (h .answer) ≡ length (records (c .released)) =
-    sym (ap (λ (o : Outcome). byte-length (o .answer)) (c .outcome-is)) ∙ f ∙ ap (λ (o : Outcome). length (records (o .released))) (c .outcome-is) in
+    let n = named-length h in
     let b : records (c .released) ≡ take (byte-length (h .answer)) (h .out′) =
     sym (ap (λ (x : List ℕ). take (byte-length (h .answer)) x) (c .written) ∙ front (records (c .released)) (h .out) (byte-length (h .answer)) n) in
     ap (answered (h .timed .packet)) (c .outcome-is)
     ∙ (λ i. record { number = stepNumber (h .answer); values = stepValues (nameOf (h .timed .packet)) (h .answer); bytes = b i })
+
+-- "No stopped call writes output": nor does any step that releases nothing
+nil : (xs : List ℕ) → length xs ≡ 0 → xs ≡ []
+nil [] e = refl
+nil (x ∷ xs) e = absurd (omega arith)
+
+stop-silent : (a : StepAnswer) → stepNumber a ≢ 0 → byte-length a ≡ 0
+stop-silent says.Nothing n = refl
+stop-silent (says.Released r b) n = absurd (n refl)
+stop-silent (says.TooLong k) n = refl
+stop-silent (says.IllegalUniverse u) n = refl
+stop-silent (says.UniverseTimeout c u) n = refl
+stop-silent (says.UniverseTerminated c u) n = refl
+stop-silent (says.SourcesExceeded k) n = refl
+stop-silent (says.OutOfSequence a l d) n = refl
+stop-silent says.DmxMergeError n = refl
+stop-silent says.SourceDiscovered n = refl
+stop-silent says.PairsFull n = refl
+stop-silent says.ListenedFull n = refl
+stop-silent says.WaitingFull n = refl
+stop-silent says.PagesFull n = refl
+stop-silent (says.TooShort k) n = refl
+stop-silent says.SourceWithoutPairs n = refl
+
+pub silent-output : {S : Settings} (h : Handling S) → byte-length (h .answer) ≡ 0 → h .out′ ≡ h .out
+silent-output h e = h .contract .written ∙ ap (λ (b : List ℕ). over b (h .out)) (nil (records (h .contract .released)) (sym (named-length h) ∙ e))
+
+pub stopped-output : {S : Settings} (h : Handling S) → stepNumber (h .answer) ≢ 0 → h .out′ ≡ h .out
+stopped-output h n = silent-output h (stop-silent (h .answer) n)
 
 module _ {S : Settings} (lent : ℕ → Space) where
   -- step number i of the run is lent what the calls were lent
