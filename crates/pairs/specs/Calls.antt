@@ -5,7 +5,7 @@ use mathlib.Core.Logic.{⊎-elim}
 use mathlib.Core.Bool.{Bool, true, false, not, _&&_}
 use mathlib.Core.Option.{Option, none, some}
 use mathlib.Core.List.{List, map}
-use Prim.Native.Nat.{ℕ, _+_, _≤_, _<_}
+use Prim.Native.Nat.{ℕ, _+_, _-_, _≤_, _<_, min}
 use native.Mathlib.Omega.{arith}
 use lib.ListN.{length, take, length-take, length-map}
 use borrow.Author.Tests.{le-leb, lt-leb}
@@ -22,7 +22,8 @@ use Rattle.pairs.specs.declared.Checked.the-variants.{Accepted, Universe
 use Rattle.pairs.specs.declared.SweepAnswer.the-variants.{Quiet, TimedOut}
 use Rattle.pairs.specs.Table.{Key, key, keyOf, key-before, itself, Table, capacity, pairAt, has, listed, leave, without, live, swept, noted, told, sweep, reached, stop, recorded, admit, check, Ordered}
 use Rattle.pairs.specs.Laws.{without-unknown, without-known, ordered-without, ordered-swept, noted-none, swept-quiet, admit-stored, admit-stopped, ordered-admit, check-quiet, check-told}
-use Rattle.pairs.specs.View.{Rows, cidOf, pairsOf, sourcesOf, tableOf, older, Kept, Follows, answered, answerOf, removal, noteOf, pair-stop, PairsKept, Stored, Admitted, accepted}
+use Rattle.pairs.specs.View.{Rows, cidOf, pairsOf, sourcesOf, tableOf, older, lonely, lower, last-reading, renewed, Kept, Follows, Unmoved, answered, answerOf, removal, noteOf, pair-stop, PairsKept, Stored, Admitted, accepted}
+use Rattle.pairs.specs.Rows.{older-lower, lower-fresh}
 use Rattle.pairs.specs.Sweep.{fresh, note-none, note-some}
 use Rattle.pairs.specs.Admit.{older-removed, older-stored, lonely-without, lonely-swept, lonely-recorded, swept-idle, stop-listed, stop-limit, stop-full, stop-unlisted, listed-some, listed-none, recorded-listed, never-accepted}
 
@@ -40,16 +41,16 @@ used f n rows h l = length-map (take n rows) f ∙ omega (arith, length-take n r
 
 -- a pair is stored among the rows
 pub stored-as : (t : PairTable) (pairs : Rows) (p : Pair) (n o : ℕ) (after : Rows) → PairsKept t pairs → length after ≡ 1024 → n ≤ 1024
-    → pairsOf n after ≡ store key-before keyOf p (pairsOf (t .count) pairs) → o ≤ t .oldest → o ≤ p .reading
+    → pairsOf n after ≡ store key-before keyOf p (pairsOf (t .count) pairs) → o ≡ min (t .oldest) (p .reading)
     → Stored t pairs (record { count = n; «source_count» = t .«source_count»; oldest = o; tidy = t .tidy }) after p
-stored-as t pairs p n o after k l nf e a b = record {
+stored-as t pairs p n o after k l nf e m = record {
   pairs-are = e;
   same-sources = refl;
   same-tidy = refl;
   kept = record {
     pairs-room = l;
     count-fits = nf;
-    none-older = subst (λ (ps : List Pair). older o ps ≡ false) (sym e) (older-stored (t .oldest) o p (pairsOf (t .count) pairs) a b (k .none-older));
+    none-older = subst (λ (ps : List Pair). older o ps ≡ false) (sym e) (older-stored (t .oldest) o p (pairsOf (t .count) pairs) (omega arith) (omega arith) (k .none-older));
   };
 }
 
@@ -98,7 +99,7 @@ module _ (t : PairTable) (pairs sources : Rows) (k : Kept t pairs sources) where
 
   module _ (now n m o : ℕ) (pairs′ sources′ : Rows) (lp : length pairs′ ≡ 1024) (ls : length sources′ ≡ 1024) (nf : n ≤ 1024) (mf : m ≤ 1024)
       (ep : pairsOf n pairs′ ≡ keep (live now) (here .pairs)) (es : sourcesOf m sources′ ≡ keep (has (pairsOf n pairs′)) (here .sources))
-      (old : older o (pairsOf n pairs′) ≡ false) where
+      (old : o ≡ lower last-reading (pairsOf n pairs′)) where
     abbrev cleaned : PairTable
     cleaned = record { count = n; «source_count» = m; oldest = o; tidy = true }
 
@@ -116,10 +117,51 @@ module _ (t : PairTable) (pairs sources : Rows) (k : Kept t pairs sources) where
         count-fits = nf;
         source-count-fits = mf;
         ordered = subst Ordered (sym clean) (ordered-swept now here (k .ordered));
-        none-older = old;
+        none-older = older-lower last-reading o (pairsOf n pairs′) (omega arith);
         none-lonely = λ e. rw es (lonely-swept (pairsOf n pairs′) (here .sources));
       };
     }
+
+  -- ── the header's notes made anew ──
+  pub renews : (o : ℕ) (b : Bool) → o ≡ lower last-reading (here .pairs) → b ≡ not (lonely (here .pairs) (here .sources))
+      → record { count = t .count; «source_count» = t .«source_count»; oldest = o; tidy = b } ≡ renewed t pairs sources
+  renews o b e d = λ i. record { count = t .count; «source_count» = t .«source_count»; oldest = e i; tidy = d i }
+
+  pub tidy-known : t .tidy ≡ true → true ≡ not (lonely (here .pairs) (here .sources))
+  tidy-known h = sym (ap not (k .none-lonely h))
+
+  pub renewed-kept : Kept (renewed t pairs sources) pairs sources
+  renewed-kept = record {
+    pairs-room = k .pairs-room;
+    sources-room = k .sources-room;
+    count-fits = k .count-fits;
+    source-count-fits = k .source-count-fits;
+    ordered = k .ordered;
+    none-older = older-lower last-reading (lower last-reading (here .pairs)) (here .pairs) (omega arith);
+    none-lonely = λ e. split (lonely (here .pairs) (here .sources)) (λ l. clash e (ap not l)) (λ l. l);
+  }
+
+  -- ── the rows after a sweep with nothing to do ──
+  pub rows-stay : (now : ℕ) → Unmoved t pairs sources now pairs sources
+  rows-stay now = record { rows-same = λ s l. (refl, refl) }
+
+  -- notes made anew that leave something to do: a pair is expired, or a CID has no pair
+  pub rows-busy : (now : ℕ) (u : PairTable) (pairs′ sources′ : Rows) → now ≤ last-reading → u ≡ renewed t pairs sources → u .tidy && not (expired now (u .oldest)) ≡ false
+      → Unmoved t pairs sources now pairs′ sources′
+  rows-busy now u pairs′ sources′ f e h = record {
+    rows-same = λ s l.
+        let o = lower-fresh now last-reading (here .pairs) (lt-leb 2500 (now - last-reading) (omega arith)) s in
+        let g : not (lonely (here .pairs) (here .sources)) && not (expired now (lower last-reading (here .pairs))) ≡ true = rw (l, o) in
+        clash (rw e g) h;
+  }
+
+  -- a pair that is told was expired
+  pub rows-told : (now : ℕ) (c : Cid) (u : ℕ) (pairs′ sources′ : Rows) → noteOf (noted now (here .pairs) (here .sources)) ≡ TimedOut c u → Unmoved t pairs sources now pairs′ sources′
+  rows-told now c u pairs′ sources′ e = record {
+    rows-same = λ s l.
+        let q : Quiet ≡ TimedOut c u = sym (ap noteOf (noted-none now (here .pairs) (here .sources) s)) ∙ e in
+        let z : _≡_ {A = ℕ} 0 1 = cc in absurd (omega arith);
+  }
 
   -- ── the announced sweep ──
   announced : (now : ℕ) (o : Option Pair) → noted now (here .pairs) (here .sources) ≡ o → sweep true now here ≡ told here o
@@ -254,3 +296,10 @@ module _ (t : PairTable) (pairs sources : Rows) (k : Kept t pairs sources) where
       → check limit announce p here ≡ admit limit p (now .0)
   check-goes limit announce p (v, none) e f = check-quiet limit announce p here v e
   check-goes limit announce p (v, some j) e f = let z : _≡_ {A = ℕ} 0 1 = cc in absurd (omega arith)
+
+-- a sweep that the notes made anew show to be idle
+pub sweep-renewed : (t : PairTable) (pairs sources : Rows) (k : Kept t pairs sources) (now : ℕ) (u : PairTable) → u ≡ renewed t pairs sources → u .tidy && not (expired now (u .oldest)) ≡ true
+    → Follows u pairs sources Quiet (answered (sweep false now (tableOf t pairs sources)))
+sweep-renewed t pairs sources k now u e =
+    subst (λ (v : PairTable). v .tidy && not (expired now (v .oldest)) ≡ true → Follows v pairs sources Quiet (answered (sweep false now (tableOf t pairs sources)))) (sym e)
+    (sweep-idle (renewed t pairs sources) pairs sources (renewed-kept t pairs sources k) now)

@@ -1,27 +1,28 @@
 -- Lists of rows seen through what they stand for: one law for each kind of loop turn and return of the code.
 -- Assumes nothing.
-use mathlib.Core.Path.{_≡_, sym, ap, _∙_}
+use mathlib.Core.Path.{_≡_, refl, sym, ap, _∙_}
 use mathlib.Core.Logic.{_≢_}
 use mathlib.Core.Bool.{Bool, true, false}
 use mathlib.Core.Option.{none, some}
-use mathlib.Core.List.{List, [], _∷_, _++_, map}
-use Prim.Native.Nat.{ℕ, _+_, _≤_, _<_}
+use mathlib.Core.List.{List, [], _∷_, map}
+use Prim.Native.Nat.{ℕ, _+_, _-_, _≤_, _<_, min}
 use native.Mathlib.Omega.{arith}
-use native.Mathlib.Numerals.{add-one}
-use lib.Dec.{ltb}
-use lib.ListN.{length, take, getD, length-take, length-map}
-use lib.Seq.{getD-take, take-suc}
-use borrow.Author.Tests.{eqb-true, eq-eqb, ltb-false, le-ltb}
+use lib.ListN.{length, take, drop, getD, length-take, length-map}
+use lib.Seq.{getD-take}
+use borrow.Author.Tests.{eqb-true, eq-eqb, le-ltb, leb-false, lt-leb}
 use Rattle.table.specs.Cases.{split, clash}
 use Rattle.table.specs.Order.{Order, before-by}
 use Rattle.table.specs.Table.{any, find}
 use Rattle.table.specs.Place.{place, prefix, absent, absent-end, present, getD-map}
+use Rattle.table.specs.Arrays.{next}
 use Rattle.rules.specs.declared.Cid.{Cid}
 use Rattle.rules.specs.Cid.{same, same-refl, same-path}
+use Rattle.rules.specs.Age.{expired}
 use Rattle.pairs.specs.declared.Pair.{Pair}
 use Rattle.pairs.specs.declared.Found.the-variants.{At, Nothing}
 use Rattle.pairs.specs.Table.{Key, key, keyOf}
-use Rattle.pairs.specs.View.{Rows, pairOf, pairsOf, placed, same-key, older}
+use Rattle.pairs.specs.Laws.{stale}
+use Rattle.pairs.specs.View.{Rows, pairOf, placed, same-key, older, lower}
 
 -- ── keys ──
 pub same-key-path : (p : Pair) (c : Cid) (u : ℕ) → same-key p c u ≡ true → keyOf p ≡ key c u
@@ -96,16 +97,36 @@ module _ {K E : Type 0} (lt : K → K → Bool) (key : E → K) (O : Order lt) (
     placed-end h = ap (placed (place lt key k used)) (sym (found-end h))
 
 -- ── readings ──
-older-snoc : (m l : ℕ) (rs : Rows) (r : List ℕ) → l ≤ m → l ≤ pairOf r .reading → older m (map pairOf rs) ≡ false → older l (map pairOf (rs ++ r ∷ [])) ≡ false
-unfolding any
-older-snoc m l [] r le lr o = rw (le-ltb (pairOf r .reading) l lr)
-older-snoc m l (x ∷ rs) r le lr o =
-    split (ltb (pairOf x .reading) m)
-    (λ e. clash (rw e) o)
-    (λ e.
-    let f = le-ltb (pairOf x .reading) l (omega (arith, ltb-false (pairOf x .reading) m e)) in
-    rw f (older-snoc m l rs r le lr (rw e at o)))
+module _ (rows : Rows) (n i o : ℕ) where
+  pub lower-next : (l : ℕ) → i < n → i < length rows → l ≡ min o (pairOf (getD rows i []) .reading)
+      → lower l (map pairOf (drop (i + 1) (take n rows))) ≡ lower o (map pairOf (drop i (take n rows)))
+  unfolding lower
+  lower-next l h f e = rw (next rows n i [] h f, e)
 
-pub older-next : (rows : Rows) (i m l : ℕ) → i < length rows → l ≤ m → l ≤ pairOf (getD rows i []) .reading
-    → older m (pairsOf i rows) ≡ false → older l (pairsOf (i + 1) rows) ≡ false
-older-next rows i m l h le lr o = rw (add-one, take-suc rows i [] h) (older-snoc m l (take i rows) (getD rows i []) le lr o)
+  pub lower-done : drop i (take n rows) ≡ [] → lower o (map pairOf (drop i (take n rows))) ≡ o
+  unfolding lower
+  lower-done e = rw e
+
+pub lower-under : (o : ℕ) (ps : List Pair) → lower o ps ≤ o
+unfolding lower
+lower-under o [] = omega arith
+lower-under o (p ∷ ps) = omega (arith, lower-under (min o (p .reading)) ps)
+
+-- no pair is older than the least reading
+pub older-lower : (o l : ℕ) (ps : List Pair) → l ≤ lower o ps → older l ps ≡ false
+unfolding lower any
+older-lower o l [] h = refl
+older-lower o l (p ∷ ps) h =
+    let e = le-ltb (p .reading) l (omega (arith, lower-under (min o (p .reading)) ps)) in
+    rw e (older-lower (min o (p .reading)) l ps h)
+
+-- and where none is expired, it is not
+pub lower-fresh : (now o : ℕ) (ps : List Pair) → expired now o ≡ false → stale now ps ≡ false → expired now (lower o ps) ≡ false
+unfolding lower any
+lower-fresh now o [] e s = e
+lower-fresh now o (p ∷ ps) e s =
+    split (expired now (p .reading))
+    (λ f. clash (rw f) s)
+    (λ f.
+    let x = lt-leb 2500 (now - min o (p .reading)) (omega (arith, leb-false 2500 (now - o) e, leb-false 2500 (now - p .reading) f)) in
+    lower-fresh now (min o (p .reading)) ps x (rw f at s))

@@ -1,6 +1,6 @@
 -- What the loops of a sweep do to the lent rows: one law for each kind of turn.
 -- Assumes nothing.
-use mathlib.Core.Path.{_≡_, refl, sym, ap, _∙_}
+use mathlib.Core.Path.{_≡_, refl, sym, ap, subst, _∙_}
 use mathlib.Core.Logic.{_≢_}
 use mathlib.Core.Bool.{Bool, true, false}
 use mathlib.Core.Option.{Option, none, some}
@@ -8,12 +8,12 @@ use mathlib.Core.List.{List, [], _∷_, _++_, map, append-nil}
 use Prim.Native.Nat.{ℕ, zero, suc, _+_, _-_, _≤_, _<_}
 use native.Mathlib.Omega.{arith}
 use lib.Dec.{ltb}
-use lib.ListN.{length, take, drop, getD, set, take-append-drop}
-use lib.Seq.{drop-drop}
+use lib.ListN.{length, take, drop, getD, set, take-append-drop, length-append, length-take, length-drop, drop-of-length-le}
+use lib.Seq.{drop-drop, set-getD}
 use borrow.Author.Tests.{ltb-false, leb-false, lt-leb}
 use Rattle.table.specs.Cases.{split, clash, found}
 use Rattle.table.specs.Order.{tri, asym, beyond}
-use Rattle.table.specs.Table.{keep, any, Ascending, Under, keep-map}
+use Rattle.table.specs.Table.{keep, any, Ascending, Under, keep-map, length-keep}
 use Rattle.table.specs.Place.{prefix, drop-map, append-map}
 use Rattle.table.specs.Arrays.{next, untouched, compact-keep, compact-drop}
 use Rattle.rules.specs.declared.Cid.{Cid}
@@ -24,8 +24,9 @@ use Rattle.pairs.specs.declared.SweepAnswer.{SweepAnswer}
 use Rattle.pairs.specs.declared.SweepAnswer.the-variants.{Quiet, TimedOut}
 use Rattle.pairs.specs.Table.{Key, key, keyOf, key-before, itself, has, live, lowest, later, last-noted, noted}
 use Rattle.pairs.specs.Laws.{stale}
-use Rattle.pairs.specs.View.{Rows, cidOf, pairOf, sourcesOf, row-before, starts, lapsed, older, noteOf}
+use Rattle.pairs.specs.View.{Rows, cidOf, pairOf, sourcesOf, row-before, starts, lapsed, older, lonely, noteOf}
 use Rattle.pairs.specs.Rows.{by-first-not}
+use Rattle.pairs.specs.Admit.{lonely-swept}
 
 -- ── an ascending list from a place on ──
 module _ {K E : Type 0} (lt : K → K → Bool) (key : E → K) where
@@ -155,6 +156,38 @@ unfolding keep
 walk-done {l} {all} {m} {s} {kept} {i} {j} w e =
     ap (map cidOf) (sym (append-nil (take kept s)) ∙ ap (λ (t : Rows). take kept s ++ keep (owner (drop j l)) t) (sym e) ∙ w .done)
     ∙ sym (keep-map cidOf (has (map pairOf l)) all)
+
+-- ── the walk that only looks ──
+keep-paired : (ps : List Pair) (r : Rows) → lonely ps (map cidOf r) ≡ false → keep (λ (x : List ℕ). has ps (cidOf x)) r ≡ r
+unfolding any keep
+keep-paired ps [] f = refl
+keep-paired ps (x ∷ r) f =
+    split (has ps (cidOf x))
+    (λ e. rw e (ap (λ (t : Rows). x ∷ t) (keep-paired ps r (rw e at f))))
+    (λ e. clash (rw e) f)
+
+module _ {l : Rows} {m : ℕ} {s : Rows} {i j : ℕ} (w : Walk l (take m s) m s i i j) where
+  pub walk-on : i < m → i < length s → owner (drop j l) (getD s i []) ≡ true → Walk l (take m s) m s (i + 1) (i + 1) j
+  walk-on h ls e = subst (λ (t : Rows). Walk l (take m s) m t (i + 1) (i + 1) j) (set-getD s i []) (walk-keep w h ls (omega arith) e)
+
+  -- all have been found to have a pair
+  pub walk-paired : i ≡ m → lonely (map pairOf l) (map cidOf (take m s)) ≡ false
+  walk-paired e =
+      let k = walk-done w (drop-of-length-le (take m s) {i = i} (omega (arith, length-take m s))) in
+      let f : map cidOf (take m s) ≡ keep (has (map pairOf l)) (map cidOf (take m s)) = ap (λ (n : ℕ). map cidOf (take n s)) (sym e) ∙ k in
+      ap (lonely (map pairOf l)) f ∙ lonely-swept (map pairOf l) (map cidOf (take m s))
+
+  -- or one to have none
+  pub walk-lonely : i < m → m ≤ length s → owner (drop j l) (getD s i []) ≡ false → lonely (map pairOf l) (map cidOf (take m s)) ≡ true
+  unfolding keep
+  walk-lonely h ls e =
+      split (lonely (map pairOf l) (map cidOf (take m s)))
+      (λ f. f)
+      (λ f.
+      let a = ap length (w .done ∙ keep-paired (map pairOf l) (take m s) f) in
+      let b : keep (owner (drop j l)) (drop i (take m s)) ≡ keep (owner (drop j l)) (drop (i + 1) (take m s)) = rw (next s m i [] h (omega arith), e) in
+      let c = length-keep (owner (drop j l)) (drop (i + 1) (take m s)) in
+      absurd (omega (arith, a, ap length b, c, length-append (take i s) (keep (owner (drop j l)) (drop i (take m s))), length-take i s, length-take m s, length-drop (i + 1) (take m s))))
 
 -- ── the pass that keeps what is live ──
 abbrev pub live-row : ℕ → List ℕ → Bool

@@ -6,7 +6,7 @@ use mathlib.Core.Logic.{_⊎_}
 use mathlib.Core.Bool.{Bool, true, false, not, cond, _&&_}
 use mathlib.Core.Option.{Option, none, some}
 use mathlib.Core.List.{List, [], _∷_, map}
-use Prim.Native.Nat.{ℕ, _≤_, _<_, _/_, _%_}
+use Prim.Native.Nat.{ℕ, _≤_, _<_, _/_, _%_, min}
 use lib.Dec.{ltb, leb, eqb}
 use lib.ListN.{length, take, getD}
 use Rattle.table.specs.Table.{any, find, store, Ascending}
@@ -24,6 +24,7 @@ use Rattle.pairs.specs.declared.Checked.the-variants.{Accepted, Universe
 use Rattle.pairs.specs.declared.SweepAnswer.{SweepAnswer}
 use Rattle.pairs.specs.declared.SweepAnswer.the-variants.{Quiet, TimedOut}
 use Rattle.pairs.specs.Table.{Key, keyOf, key-before, itself, Table, capacity, empty, pairAt, has, without, unknown, sequence-stop, Ordered}
+use Rattle.pairs.specs.Laws.{stale}
 
 abbrev pub Rows : Type 0
 Rows = List (List ℕ)
@@ -52,6 +53,15 @@ older o ps = any (λ p. ltb (p .reading) o) ps
 abbrev pub lonely : List Pair → List Cid → Bool
 lonely ps cs = any (λ c. not (has ps c)) cs
 
+-- the least of a reading and those of the pairs
+unfoldable pub lower : ℕ → List Pair → ℕ
+lower o [] = o
+lower o (p ∷ ps) = lower (min o (p .reading)) ps
+
+-- the largest reading that there is
+abbrev pub last-reading : ℕ
+last-reading = 0xFFFFFFFFFFFFFFFF
+
 -- What calls require and ensure again: rows as long as their types say, tables in order and within their counts, and the header's two
 -- notes: no pair is older than `oldest`, and where `tidy` is set each listed CID has a pair. `oldest: 0, tidy: false` is true of every table.
 pub record Kept (t : PairTable) (pairs sources : Rows) : Type 0 where
@@ -62,6 +72,15 @@ pub record Kept (t : PairTable) (pairs sources : Rows) : Type 0 where
   pub ordered : Ordered (tableOf t pairs sources)
   pub none-older : older (t .oldest) (pairsOf (t .count) pairs) ≡ false
   pub none-lonely : t .tidy ≡ true → lonely (pairsOf (t .count) pairs) (sourcesOf (t .«source_count») sources) ≡ false
+
+-- the header with its notes as the rows say
+abbrev pub renewed : PairTable → Rows → Rows → PairTable
+renewed t pairs sources = record {
+  count = t .count;
+  «source_count» = t .«source_count»;
+  oldest = lower last-reading (pairsOf (t .count) pairs);
+  tidy = not (lonely (pairsOf (t .count) pairs) (sourcesOf (t .«source_count») sources));
+}
 
 -- "Finding a pair answers nothing or its place."
 abbrev pub placed : {A : Type 0} → ℕ → Option A → Found
@@ -128,6 +147,11 @@ pub record Follows {A : Type 0} (t : PairTable) (pairs sources : Rows) (answer :
   pub table-is : tableOf t pairs sources ≡ said .0
   pub answer-is : answer ≡ said .1
   pub kept : Kept t pairs sources
+
+-- a sweep leaves the rows as they are where no pair is expired and each listed CID has a pair
+pub record Unmoved (t : PairTable) (pairs sources : Rows) (now : ℕ) (pairs′ sources′ : Rows) : Type 0 where
+  pub rows-same : stale now (pairsOf (t .count) pairs) ≡ false → lonely (pairsOf (t .count) pairs) (sourcesOf (t .«source_count») sources) ≡ false
+      → (pairs′ ≡ pairs) × (sources′ ≡ sources)
 
 -- an arriving pair
 abbrev pub arriving : Cid → ℕ → ℕ → ℕ → Pair

@@ -12,7 +12,7 @@ ghost use Rattle.table.specs.Table.{remove};
 ghost use Rattle.rules.specs.Age.{expired};
 ghost use Rattle.rules.specs.Cid.{before};
 ghost use Rattle.pairs.specs.Table.{key, itself, has, reached, sweep, admit, check};
-ghost use Rattle.pairs.specs.View.{pairsOf, sourcesOf, tableOf, foundAt, answered, removal, accepted, Kept, Emptied, Follows, PairsKept, Stored, Admitted, NewPair, KnownPair, NewSource, arriving};
+ghost use Rattle.pairs.specs.View.{pairsOf, sourcesOf, tableOf, foundAt, answered, removal, accepted, renewed, Kept, Emptied, Follows, Unmoved, PairsKept, Stored, Admitted, NewPair, KnownPair, NewSource, arriving};
 use crate::rows::insert_pair;
 use crate::rows::insert_source;
 use crate::rows::pair_of;
@@ -27,6 +27,7 @@ use crate::search::least_reading;
 use crate::search::place_of;
 use crate::search::same_key;
 use crate::search::source_place;
+use crate::sweep::all_paired;
 use crate::sweep::keep_live;
 use crate::sweep::keep_sources;
 use crate::sweep::note;
@@ -219,7 +220,30 @@ impl PairTable {
         false
     }
 
-    // All expired pairs go, and every CID without a pair.
+    // The header with its notes made anew from the rows.
+    fn renew_notes(self, pairs: &[[u64; 4]; 1024], sources: &[[u64; 2]; 1024]) -> PairTable
+        requires { ⌜ Kept self (now pairs) (now sources) ⌝ }
+        ensures { λ r. ⌜ r ≡ renewed self (now (pairs .entry)) (now (sources .entry)) ⌝ }
+    {
+        let oldest = least_reading(pairs, self.count);
+        if self.tidy {
+            return PairTable {
+                count: self.count,
+                source_count: self.source_count,
+                oldest: oldest,
+                tidy: true,
+            };
+        }
+        let tidy = all_paired(pairs, self.count, sources, self.source_count);
+        PairTable {
+            count: self.count,
+            source_count: self.source_count,
+            oldest: oldest,
+            tidy: tidy,
+        }
+    }
+
+    // All expired pairs go, and every CID without a pair. Rows are written only if there are such.
     fn sweep_expired(
         self,
         pairs: &mut [[u64; 4]; 1024],
@@ -227,11 +251,19 @@ impl PairTable {
         reading: u64,
     ) -> Swept
         requires { ⌜ Kept self (now pairs) (now sources) ⌝ }
-        ensures { λ r. ⌜ Follows (r .table) (now (pairs .exit)) (now (sources .exit)) (r .answer) (answered (sweep false reading (tableOf self (now (pairs .entry)) (now (sources .entry))))) ⌝ }
+        ensures view { λ r. ⌜ Follows (r .table) (now (pairs .exit)) (now (sources .exit)) (r .answer) (answered (sweep false reading (tableOf self (now (pairs .entry)) (now (sources .entry))))) ⌝ }
+        ensures quiet { λ r. ⌜ Unmoved self (now (pairs .entry)) (now (sources .entry)) reading (now (pairs .exit)) (now (sources .exit)) ⌝ }
     {
         if self.is_idle(reading) {
             return Swept {
                 table: self,
+                answer: SweepAnswer::Quiet,
+            };
+        }
+        let t = self.renew_notes(&*pairs, &*sources);
+        if t.is_idle(reading) {
+            return Swept {
+                table: t,
                 answer: SweepAnswer::Quiet,
             };
         }
@@ -258,7 +290,8 @@ impl PairTable {
         reading: u64,
     ) -> Swept
         requires { ⌜ Kept self (now pairs) (now sources) ⌝ }
-        ensures { λ r. ⌜ Follows (r .table) (now (pairs .exit)) (now (sources .exit)) (r .answer) (answered (sweep true reading (tableOf self (now (pairs .entry)) (now (sources .entry))))) ⌝ }
+        ensures view { λ r. ⌜ Follows (r .table) (now (pairs .exit)) (now (sources .exit)) (r .answer) (answered (sweep true reading (tableOf self (now (pairs .entry)) (now (sources .entry))))) ⌝ }
+        ensures quiet { λ r. ⌜ Unmoved self (now (pairs .entry)) (now (sources .entry)) reading (now (pairs .exit)) (now (sources .exit)) ⌝ }
     {
         if is_expired(reading, self.oldest) {
             let SweepAnswer::TimedOut(cid, universe) = note(
@@ -294,7 +327,8 @@ impl PairTable {
         reading: u64,
     ) -> Swept
         requires { ⌜ Kept self (now pairs) (now sources) ⌝ }
-        ensures { λ r. ⌜ Follows (r .table) (now (pairs .exit)) (now (sources .exit)) (r .answer) (answered (sweep announce reading (tableOf self (now (pairs .entry)) (now (sources .entry))))) ⌝ }
+        ensures view { λ r. ⌜ Follows (r .table) (now (pairs .exit)) (now (sources .exit)) (r .answer) (answered (sweep announce reading (tableOf self (now (pairs .entry)) (now (sources .entry))))) ⌝ }
+        ensures quiet { λ r. ⌜ Unmoved self (now (pairs .entry)) (now (sources .entry)) reading (now (pairs .exit)) (now (sources .exit)) ⌝ }
     {
         if announce {
             return self.sweep_announced(pairs, sources, reading);
@@ -533,7 +567,8 @@ impl DataTable {
         reading: u64,
     ) -> DataSwept
         requires { ⌜ Kept (self .table) (now pairs) (now sources) ⌝ }
-        ensures { λ r. ⌜ Follows (r .table .table) (now (pairs .exit)) (now (sources .exit)) (r .answer) (answered (sweep announce reading (tableOf (self .table) (now (pairs .entry)) (now (sources .entry))))) ⌝ }
+        ensures view { λ r. ⌜ Follows (r .table .table) (now (pairs .exit)) (now (sources .exit)) (r .answer) (answered (sweep announce reading (tableOf (self .table) (now (pairs .entry)) (now (sources .entry))))) ⌝ }
+        ensures quiet { λ r. ⌜ Unmoved (self .table) (now (pairs .entry)) (now (sources .entry)) reading (now (pairs .exit)) (now (sources .exit)) ⌝ }
     {
         let t = self.table;
         let r = t.sweep(pairs, sources, announce, reading);
@@ -648,7 +683,8 @@ impl SyncTable {
         reading: u64,
     ) -> SyncSwept
         requires { ⌜ Kept (self .table) (now pairs) (now sources) ⌝ }
-        ensures { λ r. ⌜ Follows (r .table .table) (now (pairs .exit)) (now (sources .exit)) (r .answer) (answered (sweep announce reading (tableOf (self .table) (now (pairs .entry)) (now (sources .entry))))) ⌝ }
+        ensures view { λ r. ⌜ Follows (r .table .table) (now (pairs .exit)) (now (sources .exit)) (r .answer) (answered (sweep announce reading (tableOf (self .table) (now (pairs .entry)) (now (sources .entry))))) ⌝ }
+        ensures quiet { λ r. ⌜ Unmoved (self .table) (now (pairs .entry)) (now (sources .entry)) reading (now (pairs .exit)) (now (sources .exit)) ⌝ }
     {
         let t = self.table;
         let r = t.sweep(pairs, sources, announce, reading);

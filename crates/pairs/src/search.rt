@@ -1,12 +1,11 @@
 // What is read off the lent rows: where a key stands, and which CIDs have a pair.
 ghost use mathlib.Core.Path.{_≡_};
-ghost use mathlib.Core.Bool.{false};
-ghost use Prim.Native.Nat.{_+_, _≤_};
+ghost use Prim.Native.Nat.{_+_, _≤_, min};
 ghost use lib.ListN.{length, take, drop};
 ghost use Rattle.table.specs.Place.{place, prefix};
 ghost use Rattle.rules.specs.Cid.{before};
 ghost use Rattle.pairs.specs.Table.{key, keyOf, key-before, itself, has};
-ghost use Rattle.pairs.specs.View.{pairsOf, sourcesOf, same-key, older, sourceAt, row-before};
+ghost use Rattle.pairs.specs.View.{pairsOf, sourcesOf, same-key, lower, last-reading, sourceAt, row-before};
 use crate::Found;
 use crate::Pair;
 use crate::rows::cid_of;
@@ -106,10 +105,10 @@ pub fn has_pair(pairs: &[[u64; 4]; 1024], n: usize, cid: Cid) -> bool
     false
 }
 
-// A reading that no pair is older than: the least of them.
+// The least reading of the pairs; the largest number if there are none.
 pub fn least_reading(pairs: &[[u64; 4]; 1024], n: usize) -> u64
     requires { ⌜ (n ≤ 1024) × (length (now pairs) ≡ 1024) ⌝ }
-    ensures { λ r. ⌜ older r (pairsOf n (now (pairs .entry))) ≡ false ⌝ }
+    ensures { λ r. ⌜ r ≡ lower last-reading (pairsOf n (now (pairs .entry))) ⌝ }
 {
     let mut least: u64 = 0xFFFF_FFFF_FFFF_FFFF;
     let mut i: usize = 0;
@@ -123,7 +122,7 @@ pub fn least_reading(pairs: &[[u64; 4]; 1024], n: usize) -> u64
 }
 
 pub fn earlier(a: u64, b: u64) -> u64
-    ensures { λ r. ⌜ (r ≤ a) × (r ≤ b) ⌝ }
+    ensures { λ r. ⌜ r ≡ min a b ⌝ }
 {
     if a < b { a } else { b }
 }

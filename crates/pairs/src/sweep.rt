@@ -1,10 +1,11 @@
 // The parts of a sweep over the lent rows.
 ghost use mathlib.Core.Path.{_≡_};
+ghost use mathlib.Core.Bool.{not};
 ghost use Prim.Native.Nat.{_≤_};
 ghost use lib.ListN.{length, take, drop};
 ghost use Rattle.table.specs.Table.{keep};
 ghost use Rattle.pairs.specs.Table.{has, live, lowest, last-noted, noted};
-ghost use Rattle.pairs.specs.View.{pairsOf, sourcesOf, starts, lapsed, noteOf, Walkable};
+ghost use Rattle.pairs.specs.View.{pairsOf, sourcesOf, lonely, starts, lapsed, noteOf, Walkable};
 use crate::Pair;
 use crate::SweepAnswer;
 use crate::rows::cid_of;
@@ -83,6 +84,26 @@ pub fn keep_sources(
         }
     }
     kept
+}
+
+// Whether each of the first m CIDs has a pair, by the same walk.
+pub fn all_paired(pairs: &[[u64; 4]; 1024], n: usize, sources: &[[u64; 2]; 1024], m: usize) -> bool
+    requires { ⌜ Walkable n (now pairs) m (now sources) ⌝ }
+    ensures { λ r. ⌜ r ≡ not (lonely (pairsOf n (now (pairs .entry))) (sourcesOf m (now (sources .entry)))) ⌝ }
+{
+    let mut i: usize = 0;
+    let mut j: usize = 0;
+    while i < m {
+        let row = sources[i];
+        let cid = cid_of(row);
+        j = skip_before(pairs, n, j, cid);
+        if starts_with(pairs, n, j, cid) {
+            i += 1;
+        } else {
+            return false;
+        }
+    }
+    true
 }
 
 // Whether this is an expired pair of the CID.

@@ -27,7 +27,7 @@ returns c =
     let w = e .before .before .before in
     let s = w .before .before .before in
     let v = s .args in
-    let f = w .sweep .ensures in
+    let f = w .sweep .ensures .0 in
     let g = check-goes (v .self) (v .pairs .now) (v .sources .now) (s .pre) (v .limit) (v .announce) (v .pair) (sweep (v .announce) (v .pair .reading) (tableOf (v .self) (v .pairs .now) (v .sources .now))) refl (sym (e .enum-told .given .1) ∙ f .answer-is) in
     subst (λ (said : Table × Checked). Follows (c .admit .result .table) (c .admit .last .1 .0) (c .admit .last .1 .1 .0) (c .admit .result .answer) said) (ap (admit (v .limit) (v .pair)) (f .table-is) ∙ sym g) (c .admit .ensures)
 
@@ -37,7 +37,7 @@ returns-2 c =
     let w = t .before .before .before in
     let s = w .before .before .before in
     let v = s .args in
-    let f = w .sweep .ensures in
+    let f = w .sweep .ensures .0 in
     let g = check-timeout (v .self) (v .pairs .now) (v .sources .now) (s .pre) (v .limit) (v .announce) (v .pair) (sweep (v .announce) (v .pair .reading) (tableOf (v .self) (v .pairs .now) (v .sources .now))) _ _ refl (sym (t .told .given .1) ∙ f .answer-is) in
     record { table-is = f .table-is ∙ sym (ap (λ (r : Table × Checked). r .0) g); answer-is = sym (ap (λ (r : Table × Checked). r .1) g); kept = f .kept }
 

@@ -43,7 +43,7 @@ returns c =
     stored-as (v .self) (v .pairs .now) (v .pair) (v .self .count) (c .earlier .result) (set (v .pairs .now) (v .at) (c .before .pair-row .result)) (s .pre .kept)
     (simp length-set (s .pre .kept .pairs-room)) (s .pre .kept .count-fits)
     (rows-replaced key-before keyOf key-order pairOf (v .self .count) (v .pairs .now) (c .before .pair-row .result) (v .pair) (h .0) (v .at) (c .before .pair-row .ensures) (h .1) (h .2))
-    (c .earlier .ensures .0) (c .earlier .ensures .1)
+    (c .earlier .ensures)
 
 pub store-known-spec : {M : Type 1} → statement M
 store-known-spec =

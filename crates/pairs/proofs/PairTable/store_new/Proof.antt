@@ -35,7 +35,7 @@ returns c =
     stored-as (v .self) (v .pairs .now) (v .pair) (v .self .count + 1) (c .earlier .result) (i .insert-pair .last .0) (s .pre .kept)
     (i .insert-pair .ensures .0) (omega (arith, s .pre .room))
     (rows-inserted key-before keyOf key-order pairOf (v .self .count) (v .pairs .now) (r .pair-row .result) (v .pair) (a .place-of .result) (i .insert-pair .last .0) (r .pair-row .ensures) (s .pre .missing) (a .place-of .ensures .1) (i .insert-pair .ensures .1))
-    (c .earlier .ensures .0) (c .earlier .ensures .1)
+    (c .earlier .ensures)
 
 pub store-new-spec : {M : Type 1} → statement M
 store-new-spec =

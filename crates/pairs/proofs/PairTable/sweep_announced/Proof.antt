@@ -1,7 +1,7 @@
 -- Nothing can be expired, nothing is noted, or the pair that is noted goes.
 -- Assumes nothing.
 use mathlib.Core.Path.{sym, _∙_}
-use Rattle.pairs.specs.Calls.{announced-idle, announced-none, announced-some}
+use Rattle.pairs.specs.Calls.{announced-idle, announced-none, announced-some, rows-stay, rows-told}
 use borrow.Author.Needs.{needs}
 use Rattle.pairs.proofs.PairTable.sweep_announced.Statement.{statement}
 use Rattle.pairs.proofs.PairTable.sweep_announced.Tie as tie
@@ -23,7 +23,7 @@ returns c =
     let t = c .before .before in
     let s = t .before .before .before .before .before in
     let v = s .args in
-    announced-none (v .self) (v .pairs .now) (v .sources .now) (s .pre) (v .reading) (sym (t .note .ensures) ∙ c .enum-told .given .1)
+    (announced-none (v .self) (v .pairs .now) (v .sources .now) (s .pre) (v .reading) (sym (t .note .ensures) ∙ c .enum-told .given .1), rows-stay (v .self) (v .pairs .now) (v .sources .now) (s .pre) (v .reading))
 
 remove-requires : tie.Need-remove-requires
 remove-requires c κs = search needs
@@ -35,13 +35,16 @@ returns-2 c =
     let t = g .before .before in
     let s = t .before .before .before .before .before in
     let v = s .args in
-    announced-some (v .self) (v .pairs .now) (v .sources .now) (s .pre) (v .reading) _ _ (r .remove .result .table) (r .remove .last .1 .0) (r .remove .last .1 .1 .0) (r .remove .result .known) (sym (t .note .ensures) ∙ g .cid .given .1) (r .remove .ensures)
+    let e = sym (t .note .ensures) ∙ g .cid .given .1 in (
+      announced-some (v .self) (v .pairs .now) (v .sources .now) (s .pre) (v .reading) _ _ (r .remove .result .table) (r .remove .last .1 .0) (r .remove .last .1 .1 .0) (r .remove .result .known) e (r .remove .ensures),
+      rows-told (v .self) (v .pairs .now) (v .sources .now) (s .pre) (v .reading) _ _ (r .remove .last .1 .0) (r .remove .last .1 .1 .0) e,
+    )
 
 returns-3 : tie.Need-returns-3
 returns-3 c =
     let s = c .before .before in
     let v = s .args in
-    announced-idle (v .self) (v .pairs .now) (v .sources .now) (s .pre) (v .reading) (sym (c .before .is-expired .ensures) ∙ c .if1 .left)
+    (announced-idle (v .self) (v .pairs .now) (v .sources .now) (s .pre) (v .reading) (sym (c .before .is-expired .ensures) ∙ c .if1 .left), rows-stay (v .self) (v .pairs .now) (v .sources .now) (s .pre) (v .reading))
 
 pub sweep-announced-spec : {M : Type 1} → statement M
 sweep-announced-spec =

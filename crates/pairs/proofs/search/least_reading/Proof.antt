@@ -1,25 +1,25 @@
--- No pair that was passed is older than the least reading so far.
+-- The least reading so far, and of those that are left, is the least of all.
 -- Assumes nothing.
-use mathlib.Core.Path.{_≡_, refl, subst}
-use mathlib.Core.Bool.{false}
-use Prim.Native.Nat.{_≤_, _-_}
+use mathlib.Core.Path.{_≡_, refl, sym, ap, _∙_}
+use mathlib.Core.List.{map}
+use Prim.Native.Nat.{_≤_, _-_, min}
 use native.Mathlib.Omega.{arith}
-use Rattle.table.specs.Table.{any}
+use lib.ListN.{take, drop}
+use Rattle.table.specs.Arrays.{spent}
 use Rattle.pairs.specs.declared.Pair.{Pair}
-use Rattle.pairs.specs.View.{pairsOf, older}
-use Rattle.pairs.specs.Rows.{older-next}
+use Rattle.pairs.specs.View.{pairOf, pairsOf, lower, last-reading}
+use Rattle.pairs.specs.Rows.{lower-next, lower-done}
 use borrow.Author.Needs.{needs}
 use Rattle.pairs.proofs.search.least_reading.Statement.{statement}
 use Rattle.pairs.proofs.search.least_reading.Tie as tie
 
 abbrev Inv-loop : tie.InvT-loop
-Inv-loop pairs n least₀ i₀ least i = (i ≤ n) × (older least (pairsOf i pairs) ≡ false)
+Inv-loop pairs n least₀ i₀ least i = (i ≤ n) × (lower least (map pairOf (drop i (take n pairs))) ≡ lower last-reading (pairsOf n pairs))
 
 abbrev μ-loop : tie.MeasureT-loop
 μ-loop pairs n least₀ i₀ least i = n - i
 
 loop-holds : tie.Need-loop-holds Inv-loop μ-loop
-unfolding any
 loop-holds c = (search needs, refl)
 
 mul-row : tie.Need-mul-row Inv-loop μ-loop
@@ -45,15 +45,14 @@ loop-again c =
     let row = c .before .before in
     let h = row .before .before .loop in
     let v = row .before .before .before .args in
-    let l = subst (λ (p : Pair). c .earlier .result ≤ p .reading) (c .before .pair-of .ensures) (c .earlier .ensures .1) in
-    (omega arith, older-next (v .pairs .now) (h .i) (h .least) (c .earlier .result) (omega arith) (c .earlier .ensures .0) l (h .inv .1))
+    let e = c .earlier .ensures ∙ ap (λ (p : Pair). min (h .least) (p .reading)) (c .before .pair-of .ensures) in
+    (omega arith, lower-next (v .pairs .now) (v .n) (h .i) (h .least) (c .earlier .result) (omega arith) (omega arith) e ∙ h .inv .1)
 
 returns : tie.Need-returns Inv-loop μ-loop
 returns c =
     let h = c .before .loop in
-    let n = c .before .before .args .n in
-    let e : h .i ≡ n = omega arith in
-    rw e at (h .inv .1)
+    let v = c .before .before .args in
+    sym (lower-done (v .pairs .now) (v .n) (h .i) (h .least) (spent (v .pairs .now) (v .n) (h .i) (omega arith))) ∙ h .inv .1
 
 pub least-reading-spec : {M : Type 1} → statement M
 least-reading-spec =

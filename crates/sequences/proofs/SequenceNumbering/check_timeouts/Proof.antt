@@ -27,7 +27,7 @@ returns c =
     checks-both (v .self) (lent (v .data-pairs .now) (v .data-sources .now) (v .sync-pairs .now) (v .sync-sources .now)) (s .pre) (v .announce) (v .reading)
     (w .sweep .result .table) (w .sweep .last .1 .0) (w .sweep .last .1 .1 .0)
     (w .sweep .result .answer) (c .before .sweep2 .result .answer) (c .before .sweep2 .result .table) (c .before .sweep2 .last .1 .0) (c .before .sweep2 .last .1 .1 .0)
-    (w .sweep .ensures) (e .enum-told .given .1) (c .before .sweep2 .ensures)
+    (w .sweep .ensures .0) (e .enum-told .given .1) (c .before .sweep2 .ensures .0)
 
 returns-2 : tie.Need-returns-2
 returns-2 c =
@@ -37,7 +37,7 @@ returns-2 c =
     let v = s .args in
     checks-data (v .self) (lent (v .data-pairs .now) (v .data-sources .now) (v .sync-pairs .now) (v .sync-sources .now)) (s .pre) (v .announce) (v .reading)
     (w .sweep .result .table) (w .sweep .last .1 .0) (w .sweep .last .1 .1 .0)
-    _ _ (w .sweep .result .answer) (w .sweep .ensures) (t .told .given .1)
+    _ _ (w .sweep .result .answer) (w .sweep .ensures .0) (t .told .given .1)
 
 pub check-timeouts-spec : {M : Type 1} → statement M
 check-timeouts-spec =
