@@ -61,6 +61,7 @@ begins q w l d m a b c e = record {
     listened = c .view i;
     discovered = e .unknown (m .sources) (m .names) (m .pages) (m .universes) i;
   };
+  kept-listened = c .kept;
   kept = λ z. record {
     kept-sequences = record {
       kept-data = a .no-data .kept (m .data-pairs) (m .data-sources) (z .data-pairs-room) (z .data-sources-room);

@@ -166,6 +166,7 @@ pub record Steps (S : Settings) (now : ℕ) (p : Packet) (r : Receiver) (m : Mem
 -- a receiver that knows nothing
 pub record Begins (r : Receiver) (m : Memory) : Type 0 where
   pub state-is : stateOf r m ≡ fresh
+  pub kept-listened : listening.Kept (r .listened) (m .heard)
   pub kept : Sized m → Kept r m
 
 -- 'What stops a call', column Left: of the stops of these calls all but 4 leave all
