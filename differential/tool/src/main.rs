@@ -13,6 +13,8 @@ use std::process::ExitCode;
 use std::time::Instant;
 
 const BATCH: u64 = 100;
+// Run before the random scripts.
+const TRIALS: &str = "differential/trials.script";
 
 fn main() -> ExitCode {
     let arguments: Vec<String> = std::env::args().skip(1).collect();
@@ -75,6 +77,10 @@ fn run(words: &[&str]) -> Result<bool, String> {
         && path.parse::<u64>().is_err()
     {
         return own_script(path, &reference, &port);
+    }
+    println!("document 01's trial values:");
+    if !own_script(TRIALS, &reference, &port)? {
+        return Ok(false);
     }
     let (count, seed) = (parsed(words.first(), 200)?, parsed(words.get(1), 1)?);
     let start = Instant::now();
