@@ -1,0 +1,4 @@
+// Reads a replay script on standard input, carries each line out on a receiver and prints the answer.
+mod fields;
+
+fn main() {}
