@@ -1,4 +1,6 @@
 // Reads a replay script on standard input, carries each line out on a receiver and prints the answer.
 mod fields;
+mod parse;
+mod print;
 
 fn main() {}
