@@ -3,3 +3,5 @@ pub mod Fields
 pub mod FieldLaws
 pub mod Text
 pub mod TextLaws
+pub mod Lines
+pub mod LineLaws
