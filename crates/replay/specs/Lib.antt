@@ -5,3 +5,4 @@ pub mod Text
 pub mod TextLaws
 pub mod Lines
 pub mod LineLaws
+pub mod Answers

@@ -1,4 +1,5 @@
 // Reads a replay script on standard input, carries each line out on a receiver and prints the answer.
+mod answers;
 mod fields;
 mod lines;
 mod parse;
