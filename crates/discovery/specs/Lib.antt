@@ -12,4 +12,3 @@ pub mod Steps
 pub mod Calls
 pub mod Arrive
 pub mod Sweep
-pub mod Reads

@@ -22,7 +22,7 @@ use Rattle.discovery.specs.Store.{Head, heads-of, pages-at, sourceOf, so
 use Rattle.discovery.specs.Leaves.{cut-leaf}
 use Rattle.discovery.specs.Moves.{view-cut, sound-cut}
 use Rattle.discovery.specs.Rows.{cidAt, headOf, heads, leaves, total, Packs}
-use Rattle.discovery.specs.View.{headsOf, leavesOf, discoveredOf, Kept, Holds, Dropped, heads-getD, length-headsOf}
+use Rattle.discovery.specs.View.{headsOf, leavesOf, discoveredOf, Kept, Holds, Emptied, Dropped, heads-getD, length-headsOf}
 
 -- ── a universe ends ──
 pub universe-ended : (d : Discovery) (S N P : List (List ℕ)) (U : List ℕ) (k : Kept d S N P U) (c : Cid) (u used size : ℕ) (P′ : List (List ℕ)) (U′ : List ℕ)
@@ -186,11 +186,11 @@ module _ (time now : ℕ) where
           ap (swept time now) (g .view) ∙ (λ i. record { partial = p i; listed = l i })
 
 -- ── nothing is known ──
-pub fresh : (S N P : List (List ℕ)) (U : List ℕ) → length S ≡ 64 → length N ≡ 64 → length P ≡ 64 → 32768 ≤ length U
-    → Holds (record { «source_count» = 0; «page_count» = 0; used = 0 }) S N P U nothing-known
+pub fresh : Emptied (record { «source_count» = 0; «page_count» = 0; used = 0 })
 unfolding discoveredOf viewOf headsOf leavesOf heads leaves sources-at total page-count
-fresh S N P U s n p u = record {
-  kept = record {
+fresh = record {
+  unknown = λ S N P U. refl;
+  kept = λ S N P U s n p u. record {
     source-rows = s;
     name-rows = n;
     within = omega arith;
@@ -202,5 +202,4 @@ fresh S N P U s n p u = record {
       ordered = record { partial-once = tt; listed-once = tt; partial-proper = tt; listed-proper = tt; fit = omega arith };
     };
   };
-  seen = refl;
 }

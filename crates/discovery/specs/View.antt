@@ -14,7 +14,7 @@ use Rattle.table.specs.Table.{keep, any}
 use Rattle.table.specs.Place.{prefix, removeAt}
 use Rattle.rules.specs.declared.Cid.{Cid}
 use Rattle.discovery.specs.declared.Discovery.{Discovery}
-use Rattle.discovery.specs.Discovery.{Discovered, pages-held}
+use Rattle.discovery.specs.Discovery.{Discovered, pages-held, nothing-known}
 use Rattle.discovery.specs.Store.{Head, Leaf, heads-of, held-by, pages-at, viewOf, Sound, Single, single-heads, keep-none, keep-single, prefix-none, prefix-any}
 use Rattle.discovery.specs.Leaves.{held-leaves, heads-leaves, pages-none}
 use Rattle.discovery.specs.Moves.{without, others, leaves-of-others, view-dropped, sound-dropped}
@@ -43,6 +43,12 @@ pub record Kept (d : Discovery) (sources names pages : List (List ℕ)) (univers
 pub record Holds (d : Discovery) (sources names pages : List (List ℕ)) (universes : List ℕ) (e : Discovered) : Type 0 where
   pub kept : Kept d sources names pages universes
   pub seen : discoveredOf d sources names pages universes ≡ e
+
+-- nothing is known, whatever the memory holds
+pub record Emptied (d : Discovery) : Type 0 where
+  pub unknown : (sources names pages : List (List ℕ)) (universes : List ℕ) → discoveredOf d sources names pages universes ≡ nothing-known
+  pub kept : (sources names pages : List (List ℕ)) (universes : List ℕ) → length sources ≡ 64 → length names ≡ 64 → length pages ≡ 64 → 32768 ≤ length universes
+      → Kept d sources names pages universes
 
 -- ── heads of rows ──
 module _ (m : ℕ) (c : Cid) where

@@ -1,36 +1,30 @@
 // Document 01, 'Discovery': sources that announce their universes in pages, partial and listed.
+pub mod owners;
 mod pages;
 mod pool;
 mod rows;
 
 ghost use mathlib.Core.Path.{_≡_};
 ghost use mathlib.Core.Bool.{true, false, not};
-ghost use mathlib.Core.List.{List};
 ghost use mathlib.Core.Option.{some};
-ghost use Prim.Native.Nat.{ℕ, _+_, _≤_, _<_};
-ghost use lib.ListN.{length, take, getD};
+ghost use Prim.Native.Nat.{_+_, _≤_, _<_};
+ghost use lib.ListN.{length, take};
 ghost use Rattle.table.specs.Table.{any};
 ghost use Rattle.table.specs.Place.{prefix};
-ghost use Rattle.discovery.specs.Store.{heads-of, pages-at, sources-at};
-ghost use Rattle.discovery.specs.Rows.{owned, total, Few, Packing};
-ghost use Rattle.discovery.specs.Reads.{source-of-row, page-of-row, HeadRead, PageRead};
-ghost use Rattle.discovery.specs.Discovery.{Page, Source, lookup, begun, extended, extend, list, noting, taken, ended, swept, nothing-known};
+ghost use Rattle.discovery.specs.Store.{heads-of};
+ghost use Rattle.discovery.specs.Rows.{owned};
+ghost use Rattle.discovery.specs.Discovery.{Source, lookup, begun, extended, extend, list, noting, taken, ended, swept};
 ghost use Rattle.discovery.specs.Moves.{with-source};
 ghost use Rattle.discovery.specs.Arrive.{Took, Arrival};
-ghost use Rattle.discovery.specs.View.{headsOf, leavesOf, discoveredOf, Kept, Holds, Dropped};
+ghost use Rattle.discovery.specs.View.{headsOf, discoveredOf, Kept, Holds, Emptied, Dropped};
 use crate::pages::add_page;
 use crate::pages::cut_pages;
 use crate::pages::drop_pages;
 use crate::pool::write_at;
-use crate::rows::count_pages;
-use crate::rows::count_sources;
 use crate::rows::find_expired;
 use crate::rows::find_source;
 use crate::rows::has_all_pages;
 use crate::rows::name_row;
-use crate::rows::nth_page;
-use crate::rows::nth_source;
-use crate::rows::offset;
 use crate::rows::remove_name;
 use crate::rows::remove_source;
 use crate::rows::turn_pages;
@@ -367,7 +361,7 @@ impl Discovery {
 
     // Nothing is known, whatever the lent memory holds.
     pub fn new() -> Discovery
-        ensures { λ r. ⌜ ((sources names pages : List (List ℕ)) (universes : List ℕ) → length sources ≡ 64 → length names ≡ 64 → length pages ≡ 64 → 32768 ≤ length universes → Holds r sources names pages universes nothing-known) ⌝ }
+        ensures { λ r. ⌜ Emptied r ⌝ }
     {
         Discovery {
             source_count: 0,
@@ -378,7 +372,7 @@ impl Discovery {
 
     // All sources are forgotten.
     pub fn clear(self) -> Discovery
-        ensures { λ r. ⌜ ((sources names pages : List (List ℕ)) (universes : List ℕ) → length sources ≡ 64 → length names ≡ 64 → length pages ≡ 64 → 32768 ≤ length universes → Holds r sources names pages universes nothing-known) ⌝ }
+        ensures { λ r. ⌜ Emptied r ⌝ }
     {
         Discovery::new()
     }
@@ -436,106 +430,5 @@ impl Discovery {
             at = find_expired(&*sources, d.source_count, time, reading);
         }
         d
-    }
-
-    // How many sources are partial.
-    pub fn partial_count(self, sources: &[[u64; 6]; 64]) -> usize
-        requires { ⌜ (self .«source_count» ≤ 64) × (length (now sources) ≡ 64) ⌝ }
-        ensures { λ r. ⌜ ((names pages : List (List ℕ)) (universes : List ℕ) → r ≡ length (discoveredOf self (now (sources .entry)) names pages universes .partial)) ⌝ }
-    {
-        count_sources(sources, self.source_count, 0)
-    }
-
-    // How many sources are listed.
-    pub fn listed_count(self, sources: &[[u64; 6]; 64]) -> usize
-        requires { ⌜ (self .«source_count» ≤ 64) × (length (now sources) ≡ 64) ⌝ }
-        ensures { λ r. ⌜ ((names pages : List (List ℕ)) (universes : List ℕ) → r ≡ length (discoveredOf self (now (sources .entry)) names pages universes .listed)) ⌝ }
-    {
-        count_sources(sources, self.source_count, 1)
-    }
-
-    // Which row holds the k-th partial source (mark 0) or the k-th listed one (mark 1), from 0.
-    pub fn source_place(self, sources: &[[u64; 6]; 64], mark: u64, k: usize) -> usize
-        requires { ⌜ (self .«source_count» ≤ 64) × (length (now sources) ≡ 64) ⌝ }
-        ensures { λ r. ⌜ ((names pages : List (List ℕ)) (universes : List ℕ) (other : Source) → k < length (sources-at mark (headsOf self (now (sources .entry)) names) (pages-at mark (leavesOf self pages universes))) → (r < self .«source_count») × (getD (sources-at mark (headsOf self (now (sources .entry)) names) (pages-at mark (leavesOf self pages universes))) k other ≡ source-of-row mark self (now (sources .entry)) names pages universes r)) ⌝ }
-    {
-        nth_source(sources, self.source_count, mark, k)
-    }
-
-    // How many pages the source of this mark has.
-    pub fn page_total(self, pages: &[[u64; 5]; 64], mark: u64, cid: Cid) -> usize
-        requires { ⌜ (self .«page_count» ≤ 64) × (length (now pages) ≡ 64) ⌝ }
-        ensures { λ r. ⌜ ((universes : List ℕ) → r ≡ length (pages-at mark (leavesOf self (now (pages .entry)) universes) cid)) ⌝ }
-    {
-        count_pages(pages, self.page_count, mark, cid)
-    }
-
-    // Which row holds the k-th page of the source of this mark, from 0. Its universes begin at the row's offset in the pool.
-    pub fn place_of_page(self, pages: &[[u64; 5]; 64], mark: u64, cid: Cid, k: usize) -> usize
-        requires { ⌜ (self .«page_count» ≤ 64) × (length (now pages) ≡ 64) ⌝ }
-        ensures { λ r. ⌜ ((universes : List ℕ) (other : Page) → k < length (pages-at mark (leavesOf self (now (pages .entry)) universes) cid) → (r < self .«page_count») × (getD (pages-at mark (leavesOf self (now (pages .entry)) universes) cid) k other ≡ page-of-row (now (pages .entry)) universes r)) ⌝ }
-    {
-        nth_page(pages, self.page_count, mark, cid, k)
-    }
-
-    // Where in the pool the universes of the page in this row begin.
-    pub fn page_offset(self, pages: &[[u64; 5]; 64], at: usize) -> usize
-        requires { ⌜ (at ≤ 64) × (length (now pages) ≡ 64) × Few (take at (now pages)) ⌝ }
-        ensures { λ r. ⌜ r ≡ total (take at (now (pages .entry))) ⌝ }
-    {
-        offset(pages, at)
-    }
-
-    // The universes of the page in this row, where they lie in the pool.
-    pub fn page_universes<'a>(
-        self,
-        pages: &[[u64; 5]; 64],
-        universes: &'a [u16],
-        at: usize,
-    ) -> &'a [u16]
-        requires { ⌜ Packing (self .«page_count») (now pages) (now universes) × (at < self .«page_count») ⌝ }
-        ensures { λ r. ⌜ now r ≡ page-of-row (now (pages .entry)) (now (universes .entry)) at .universes ⌝ }
-    {
-        let start = offset(pages, at);
-        let row = pages[at];
-        let end = start + row[4] as usize;
-        &universes[start..end]
-    }
-}
-
-// What a source's row says beside its mark; the name is the first name_length bytes of the name row.
-pub struct SourceHead {
-    pub cid: Cid,
-    pub name_length: u64,
-    pub last_page: u64,
-    pub reading: u64,
-}
-
-// What a page's row says beside its owner.
-pub struct PageHead {
-    pub number: u64,
-    pub count: u64,
-}
-
-pub fn source_head(row: [u64; 6]) -> SourceHead
-    ensures { λ r. ⌜ HeadRead row r ⌝ }
-{
-    SourceHead {
-        cid: Cid {
-            hi: row[1],
-            lo: row[2],
-        },
-        name_length: row[5],
-        last_page: row[3],
-        reading: row[4],
-    }
-}
-
-pub fn page_head(row: [u64; 5]) -> PageHead
-    ensures { λ r. ⌜ PageRead row r ⌝ }
-{
-    PageHead {
-        number: row[3],
-        count: row[4],
     }
 }

@@ -9,13 +9,13 @@ ghost use Rattle.table.specs.Place.{prefix, insertAt};
 ghost use Rattle.discovery.specs.Store.{held-by};
 ghost use Rattle.discovery.specs.Leaves.{behind, cut-leaf};
 ghost use Rattle.discovery.specs.Rows.{leaves, total, Packing, Packs};
+use crate::owners::is_page_of;
+use crate::owners::offset;
 use crate::pool::cut_down;
 use crate::pool::move_down;
 use crate::pool::open_gap;
 use crate::pool::write_at;
 use crate::rows::insert_page;
-use crate::rows::is_page_of;
-use crate::rows::offset;
 use crate::rows::page_place;
 use rules::Cid;
 

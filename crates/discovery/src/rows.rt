@@ -1,48 +1,17 @@
-// The rows of sources and pages: whose they are, and rows found, put in, taken out and turned.
+// The rows of sources and pages: found, put in, taken out and turned.
 ghost use mathlib.Core.Path.{_≡_};
 ghost use mathlib.Core.Bool.{not};
 ghost use mathlib.Core.List.{[], _∷_, _++_, map};
 ghost use Prim.Native.Nat.{suc, _+_, _-_, _≤_, _<_};
 ghost use lib.ListN.{length, take, getD};
 ghost use Rattle.table.specs.Place.{prefix, insertAt, removeAt};
-ghost use Rattle.discovery.specs.Store.{owner};
 ghost use Rattle.discovery.specs.Calls.{listed-row};
-ghost use Rattle.discovery.specs.Reads.{nth, marked-row};
 ghost use Rattle.discovery.specs.Sweep.{old-row};
-ghost use Rattle.table.specs.Table.{keep};
-ghost use Rattle.discovery.specs.Rows.{owned, larger, total, Few, in-turn, turned-row};
+ghost use Rattle.discovery.specs.Rows.{owned, larger, in-turn, turned-row};
+use crate::owners::is_page_of;
+use crate::owners::is_source_of;
 use rules::Cid;
 use rules::has_aged;
-
-// The owner is this one.
-pub fn is_owner(mark: u64, cid: Cid, kind: u64, source: Cid) -> bool
-    ensures { λ r. ⌜ r ≡ owner kind source mark cid ⌝ }
-{
-    if mark != kind {
-        return false;
-    }
-    cid.is_same(source)
-}
-
-pub fn is_source_of(row: [u64; 6], mark: u64, cid: Cid) -> bool
-    ensures { λ r. ⌜ r ≡ owned mark cid row ⌝ }
-{
-    let own = Cid {
-        hi: row[1],
-        lo: row[2],
-    };
-    is_owner(row[0], own, mark, cid)
-}
-
-pub fn is_page_of(row: [u64; 5], mark: u64, cid: Cid) -> bool
-    ensures { λ r. ⌜ r ≡ owned mark cid row ⌝ }
-{
-    let own = Cid {
-        hi: row[1],
-        lo: row[2],
-    };
-    is_owner(row[0], own, mark, cid)
-}
 
 // Where the source stands; count if nowhere.
 pub fn find_source(sources: &[[u64; 6]; 64], count: usize, mark: u64, cid: Cid) -> usize
@@ -162,21 +131,6 @@ pub fn page_place(pages: &[[u64; 5]; 64], count: usize, cid: Cid, number: u8) ->
     i
 }
 
-// Where the universes of the page at place at begin.
-pub fn offset(pages: &[[u64; 5]; 64], at: usize) -> usize
-    requires { ⌜ (at ≤ 64) × (length (now pages) ≡ 64) × Few (take at (now pages)) ⌝ }
-    ensures { λ r. ⌜ r ≡ total (take at (now (pages .entry))) ⌝ }
-{
-    let mut sum: usize = 0;
-    let mut i = 0;
-    while i < at {
-        let row = pages[i];
-        sum += row[4] as usize;
-        i += 1;
-    }
-    sum
-}
-
 // One row more, before place at.
 pub fn insert_page(pages: &mut [[u64; 5]; 64], count: usize, at: usize, row: [u64; 5])
     requires { ⌜ (count < 64) × (at ≤ count) × (length (now pages) ≡ 64) ⌝ }
@@ -232,88 +186,4 @@ pub fn has_all_pages(pages: &[[u64; 5]; 64], count: usize, cid: Cid, last_page: 
         }
     }
     last_page < next
-}
-
-pub fn is_marked(row: [u64; 6], mark: u64) -> bool
-    ensures { λ r. ⌜ r ≡ marked-row mark row ⌝ }
-{
-    row[0] == mark
-}
-
-// How many sources have the mark.
-pub fn count_sources(sources: &[[u64; 6]; 64], count: usize, mark: u64) -> usize
-    requires { ⌜ (count ≤ 64) × (length (now sources) ≡ 64) ⌝ }
-    ensures { λ r. ⌜ r ≡ length (keep (marked-row mark) (take count (now (sources .entry)))) ⌝ }
-{
-    let mut n: usize = 0;
-    let mut i = 0;
-    while i < count {
-        let row = sources[i];
-        i += 1;
-        if is_marked(row, mark) {
-            n += 1;
-        }
-    }
-    n
-}
-
-// Where the k-th source of the mark stands, from 0; count if there are not so many.
-pub fn nth_source(sources: &[[u64; 6]; 64], count: usize, mark: u64, k: usize) -> usize
-    requires { ⌜ (count ≤ 64) × (length (now sources) ≡ 64) ⌝ }
-    ensures { λ r. ⌜ r ≡ nth (marked-row mark) k (take count (now (sources .entry))) ⌝ }
-{
-    let mut left = k;
-    let mut i = 0;
-    while i < count {
-        let row = sources[i];
-        if is_marked(row, mark) {
-            if left == 0 {
-                return i;
-            }
-            left -= 1;
-            i += 1;
-        } else {
-            i += 1;
-        }
-    }
-    i
-}
-
-// How many pages the owner has.
-pub fn count_pages(pages: &[[u64; 5]; 64], count: usize, mark: u64, cid: Cid) -> usize
-    requires { ⌜ (count ≤ 64) × (length (now pages) ≡ 64) ⌝ }
-    ensures { λ r. ⌜ r ≡ length (keep (owned mark cid) (take count (now (pages .entry)))) ⌝ }
-{
-    let mut n: usize = 0;
-    let mut i = 0;
-    while i < count {
-        let row = pages[i];
-        i += 1;
-        if is_page_of(row, mark, cid) {
-            n += 1;
-        }
-    }
-    n
-}
-
-// Where the owner's k-th page stands, from 0; count if there are not so many.
-pub fn nth_page(pages: &[[u64; 5]; 64], count: usize, mark: u64, cid: Cid, k: usize) -> usize
-    requires { ⌜ (count ≤ 64) × (length (now pages) ≡ 64) ⌝ }
-    ensures { λ r. ⌜ r ≡ nth (owned mark cid) k (take count (now (pages .entry))) ⌝ }
-{
-    let mut left = k;
-    let mut i = 0;
-    while i < count {
-        let row = pages[i];
-        if is_page_of(row, mark, cid) {
-            if left == 0 {
-                return i;
-            }
-            left -= 1;
-            i += 1;
-        } else {
-            i += 1;
-        }
-    }
-    i
 }

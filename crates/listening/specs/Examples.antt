@@ -1,14 +1,12 @@
--- Computed examples of listening and muting.
+-- Computed examples of listening.
 -- Assumes nothing.
 use mathlib.Core.Path.{_≡_, refl}
 use mathlib.Core.List.{List, [], _∷_}
 use Prim.Native.Nat.{ℕ, zero, suc}
-use Rattle.table.specs.Table.{find, store, remove}
+use Rattle.table.specs.Table.{find, store}
 use Rattle.model.specs.declared.ListenAnswer.the-variants as listen
-use Rattle.model.specs.declared.MuteAnswer.the-variants as muting
 use Rattle.model.specs.State.{fresh}
 use Rattle.model.specs.Step.{illegal, joined-by, listen-all}
-use Rattle.listening.specs.View.{muted}
 
 -- n universes from u on
 from : ℕ → ℕ → List ℕ
@@ -25,20 +23,13 @@ record Pinned : Type 0 where
   room : listen-all (9999 ∷ []) (from 1 1023) .1 ≡ listen.Listening
   no-room : listen-all (9999 ∷ []) (from 1 1024) .1 ≡ listen.ListenedFull
   no-room-needed : listen-all (7 ∷ 7 ∷ 1024 ∷ []) (from 1 1024) .1 ≡ listen.Listening
-  mutes : muted 64214 (3 ∷ 64214 ∷ []) ≡ (3 ∷ [], muting.Muted)
-  -- "(2, then 3)"
-  mutes-unknown : muted 5 (3 ∷ 64214 ∷ []) ≡ (3 ∷ 64214 ∷ [], muting.UniverseNotRegistered 5)
-  mutes-illegal : muted 0 (3 ∷ 64214 ∷ []) ≡ (3 ∷ 64214 ∷ [], muting.IllegalUniverse 0)
 
 pinned : Pinned
-unfolding find store remove illegal joined-by listen-all muted from
+unfolding find store illegal joined-by listen-all from
 pinned = record {
   joins = refl;
   stops = refl;
   room = refl;
   no-room = refl;
   no-room-needed = refl;
-  mutes = refl;
-  mutes-unknown = refl;
-  mutes-illegal = refl;
 }

@@ -1,4 +1,4 @@
--- One law for each loop turn and each return of the code, over lists; and that muting on the list is the receiver's call.
+-- One law for each loop turn and each return of the code, over lists.
 -- Assumes nothing.
 use mathlib.Core.Path.{_≡_, refl, sym, ap, _∙_}
 use mathlib.Core.Logic.{_≢_}
@@ -12,21 +12,21 @@ use lib.Dec.{ltb}
 use lib.ListN.{length, take, drop, getD, length-take}
 use lib.Seq.{drop-cons, getD-take}
 use borrow.Author.Tests.{lt-ltb, le-ltb}
-use Rattle.table.specs.Cases.{split, found}
+use Rattle.table.specs.Cases.{found}
 use Rattle.table.specs.Order.{ℕ-order}
 use Rattle.table.specs.Table.{find, store, remove, find-key, store-known, ascending-store, ascending-remove, length-store-new, length-store-known}
 use Rattle.table.specs.Place.{place, insertAt, removeAt, prefix-le, present, absent, absent-end, found-place, store-insert, remove-place}
 use Rattle.rules.specs.Universe.{legal}
 use Rattle.model.specs.declared.ListenAnswer.the-variants as listen
 use Rattle.model.specs.declared.MuteAnswer.the-variants as muting
-use Rattle.model.specs.State.{State, itself, listens}
-use Rattle.model.specs.Step.{most-listened, illegal, joined-by, listen-all, with-listened}
-use Rattle.model.specs.Calls.{mute-call}
+use Rattle.model.specs.State.{itself, listens}
+use Rattle.model.specs.Step.{most-listened, illegal, joined-by, listen-all}
+use Rattle.model.specs.Calls.{muted}
 use Rattle.listening.specs.declared.Listened.{Listened}
 use Rattle.listening.specs.declared.Spot.the-variants.{Taken, Free}
 use Rattle.listening.specs.declared.Joined.the-variants.{Count, Full}
 use Rattle.listening.specs.declared.Illegal.the-variants.{First, Nothing}
-use Rattle.listening.specs.View.{listenedOf, listened, Kept, spot, spotOf, illegalOf, Stands, Joins, Listens, muted, Mutes}
+use Rattle.listening.specs.View.{listenedOf, listened, Kept, spot, spotOf, illegalOf, Stands, Joins, Listens, Mutes}
 
 -- ── where a universe stands ──
 module _ (u n : ℕ) (rows : List ℕ) (fits : n ≤ length rows) (i : ℕ) (at : i ≡ place ltb itself u (take n rows)) where
@@ -214,11 +214,3 @@ module _ (u : ℕ) (l : Listened) (rows : List ℕ) (k : Kept l rows) where
         kept = record { room = g; within = r; ascending = rw s (ascending-remove ltb itself ℕ-order u (listenedOf l rows) (k .ascending)) };
         refused = λ e. absurd (e refl);
       }
-
--- the receiver's call is this one on its list
-pub mute-call-muted : (u : ℕ) (s : State) → mute-call u s ≡ (with-listened (muted u (s .listened) .0) s, muted u (s .listened) .1)
-unfolding mute-call muted
-mute-call-muted u s =
-    split (legal u)
-    (λ h. split (listens u (s .listened)) (λ g. rw (h, g)) (λ g. rw (h, g)))
-    (λ h. rw h)

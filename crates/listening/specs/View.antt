@@ -2,20 +2,18 @@
 -- Assumes nothing.
 use mathlib.Core.Path.{_≡_}
 use mathlib.Core.Logic.{_≢_}
-use mathlib.Core.Bool.{cond}
 use mathlib.Core.Option.{Option, none, some}
 use mathlib.Core.List.{List}
 use Prim.Native.Nat.{ℕ, _≤_, _<_}
 use lib.Dec.{ltb}
 use lib.ListN.{length, take}
-use Rattle.table.specs.Table.{Ascending, find, store, remove}
+use Rattle.table.specs.Table.{Ascending, find, store}
 use Rattle.table.specs.Place.{place}
-use Rattle.rules.specs.Universe.{legal}
 use Rattle.model.specs.declared.ListenAnswer.the-variants as listen
-use Rattle.model.specs.declared.MuteAnswer.{MuteAnswer}
 use Rattle.model.specs.declared.MuteAnswer.the-variants as muting
-use Rattle.model.specs.State.{itself, listens, fresh}
+use Rattle.model.specs.State.{itself, fresh}
 use Rattle.model.specs.Step.{most-listened, listen-all}
+use Rattle.model.specs.Calls.{muted}
 use Rattle.listening.specs.declared.Listened.{Listened}
 use Rattle.listening.specs.declared.ListenDone.{ListenDone}
 use Rattle.listening.specs.declared.MuteDone.{MuteDone}
@@ -72,15 +70,7 @@ pub record Listens (us : List ℕ) (l : Listened) (rows : List ℕ) (r : ListenD
   pub kept : Kept (r .listened) after
   pub refused : r .answer ≢ listen.Listening → after ≡ rows
 
--- "`mute_universe` (2, then 3)", on the list alone
-unfoldable pub muted : ℕ → List ℕ → List ℕ × MuteAnswer
-muted u l =
-    cond (legal u)
-    (cond (listens u l)
-    (remove ltb itself u l, muting.Muted)
-    (l, muting.UniverseNotRegistered u))
-    (l, muting.IllegalUniverse u)
-
+-- `mute_universe`, too
 pub record Mutes (u : ℕ) (l : Listened) (rows : List ℕ) (r : MuteDone) (after : List ℕ) : Type 0 where
   pub view : (listenedOf (r .listened) after, r .answer) ≡ muted u (listenedOf l rows)
   pub kept : Kept (r .listened) after

@@ -45,14 +45,17 @@ expiry-call room now s = elim (short page-bytes room) [
 unfoldable pub listen-call : List ℕ → State → State × ListenAnswer
 listen-call us s = let r = listen-all us (s .listened) in (with-listened (r .0) s, r .1)
 
--- "`mute_universe` (2, then 3)"
-unfoldable pub mute-call : ℕ → State → State × MuteAnswer
-mute-call u s =
+-- "`mute_universe` (2, then 3)", on the list alone
+unfoldable pub muted : ℕ → List ℕ → List ℕ × MuteAnswer
+muted u l =
     cond (legal u)
-    (cond (listens u (s .listened))
-    (with-listened (remove ltb itself u (s .listened)) s, muting.Muted)
-    (s, muting.UniverseNotRegistered u))
-    (s, muting.IllegalUniverse u)
+    (cond (listens u l)
+    (remove ltb itself u l, muting.Muted)
+    (l, muting.UniverseNotRegistered u))
+    (l, muting.IllegalUniverse u)
+
+unfoldable pub mute-call : ℕ → State → State × MuteAnswer
+mute-call u s = let r = muted u (s .listened) in (with-listened (r .0) s, r .1)
 
 -- "`clear_waiting_data` (answers whether it held any)"
 unfoldable pub clear-call : ℕ → ℕ → State → State × ClearAnswer

@@ -24,11 +24,12 @@ use Rattle.waiting.specs.Waiting as waiting
 use Rattle.waiting.specs.Records.{encode, records}
 use Rattle.discovery.specs.Discovery as discovery
 use Rattle.discovery.specs.Discovery.{Announcement, Source, Page}
+use Rattle.model.specs.declared.MuteAnswer.the-variants as muting
 use Rattle.model.specs.Answer.{stepNumber, stepValues}
 use Rattle.model.specs.Packet.{DataPacket, SyncPacket, Packet, data-packet, sync-packet, discovery-packet, over, too-long}
 use Rattle.model.specs.State.{State, fresh}
 use Rattle.model.specs.Step.{Outcome, Space, illegal, joined-by, listen-all, too-short, poll-waiting, poll-sync, poll, if-accepted, release, terminated, unsynchronised, stored, heard, synchronised, accepted, data-arrival, data-step, synchronise, sync-arrival, sync-step, discovery-step, packet-step, polled, measured, step}
-use Rattle.model.specs.Calls.{listen-call}
+use Rattle.model.specs.Calls.{listen-call, muted}
 
 -- enough of everything
 abbrev enough : Space
@@ -252,9 +253,13 @@ record Pinned : Type 0 where
         head = record { universe = 1; «sync_uni» = 7; priority = 100; «src_cid» = Merged; preview = false; «recv_timestamp» = 5 };
         values = 0 ∷ 50 ∷ 200 ∷ [];
       } ∷ []) ∷ []
+  mutes : muted 64214 (3 ∷ 64214 ∷ []) ≡ (3 ∷ [], muting.Muted)
+  -- "(2, then 3)"
+  mutes-unknown : muted 5 (3 ∷ 64214 ∷ []) ≡ (3 ∷ 64214 ∷ [], muting.UniverseNotRegistered 5)
+  mutes-illegal : muted 0 (3 ∷ 64214 ∷ []) ≡ (3 ∷ 64214 ∷ [], muting.IllegalUniverse 0)
 
 pinned : Pinned
-unfolding after numbers released waiting-values sync-universes data-sequences page-numbers step too-short measured too-long over polled poll poll-sync poll-waiting pairs.sweep pairs.swept pairs.without pairs.lowest pairs.last-noted pairs.noted pairs.told packet-step data-step data-arrival pairs.check pairs.after-sweep pairs.admit pairs.stop pairs.source-stop pairs.listed pairs.full pairs.sequence-stop pairs.settle pairs.recorded if-accepted accepted unsynchronised synchronised heard stored release terminated sync-step sync-arrival synchronise waiting.cleared waiting.stored waiting.joining waiting.merged waiting.released waiting.left same-start mergeable highest blended joined htp-merge preferred discovery-step discovery.arrived discovery.taken discovery.noted discovery.noting discovery.lookup discovery.drop-source discovery.relisted discovery.updated discovery.in-place discovery.sorted discovery.numbered discovery.complete discovery.extended discovery.begun discovery.page-count discovery.ended discovery.cut discovery.cut-page listen-call listen-all illegal joined-by find store remove keep any encode records bigEndian before-by
+unfolding after numbers released waiting-values sync-universes data-sequences page-numbers step too-short measured too-long over polled poll poll-sync poll-waiting pairs.sweep pairs.swept pairs.without pairs.lowest pairs.last-noted pairs.noted pairs.told packet-step data-step data-arrival pairs.check pairs.after-sweep pairs.admit pairs.stop pairs.source-stop pairs.listed pairs.full pairs.sequence-stop pairs.settle pairs.recorded if-accepted accepted unsynchronised synchronised heard stored release terminated sync-step sync-arrival synchronise waiting.cleared waiting.stored waiting.joining waiting.merged waiting.released waiting.left same-start mergeable highest blended joined htp-merge preferred discovery-step discovery.arrived discovery.taken discovery.noted discovery.noting discovery.lookup discovery.drop-source discovery.relisted discovery.updated discovery.in-place discovery.sorted discovery.numbered discovery.complete discovery.extended discovery.begun discovery.page-count discovery.ended discovery.cut discovery.cut-page listen-call listen-all illegal joined-by muted find store remove keep any encode records bigEndian before-by
 pinned = record {
   printed = refl;
   limit = refl;
@@ -278,4 +283,7 @@ pinned = record {
   not-listened = refl;
   two-desks = refl;
   two-desks-swapped = refl;
+  mutes = refl;
+  mutes-unknown = refl;
+  mutes-illegal = refl;
 }

@@ -34,7 +34,7 @@ use Rattle.model.specs.declared.ListenAnswer.the-variants as listening
 use Rattle.model.specs.Packet.{DataPacket, SyncPacket, Packet, data-packet, sync-packet, discovery-packet, over, first-of, too-long}
 use Rattle.model.specs.State.{State, fresh, listens, itself}
 use Rattle.model.specs.Step.{Space, Outcome, outcome, with-data, with-sync, with-waiting, with-listened, with-discovered, most-listened, illegal, joined-by, listen-all, too-short, short, poll-waiting, poll-sync, poll, if-accepted, release, terminated, unsynchronised, stored, heard, synchronised, accepted, data-arrival, data-step, synchronise, sync-arrival, sync-step, discovery-step, packet-step, polled, measured, step, dmx, data-pair, sync-pair, known}
-use Rattle.model.specs.Calls.{poll-call, polled-by, expiry-call, listen-call, mute-call, clear-call, clear-all-call, reset-call, Call, on-packet, on-poll, on-expiry, on-listen, on-mute, on-ask, on-clear, on-clear-all, on-reset, call, run}
+use Rattle.model.specs.Calls.{poll-call, polled-by, expiry-call, listen-call, muted, mute-call, clear-call, clear-all-call, reset-call, Call, on-packet, on-poll, on-expiry, on-listen, on-mute, on-ask, on-clear, on-clear-all, on-reset, call, run}
 
 -- ── listened universes ──
 pub record Heard (L : List ℕ) : Type 0 where
@@ -94,11 +94,11 @@ remove-heard v L h = record {
   all-legal = λ u l. h .all-legal u (listens-remove u v L (h .ascends) l);
 }
 
-pub mute-heard : (v : ℕ) (s : State) → Heard (s .listened) → Heard (mute-call v s .0 .listened)
-unfolding mute-call
-mute-heard v s h =
+pub mute-heard : (v : ℕ) (L : List ℕ) → Heard L → Heard (muted v L .0)
+unfolding muted
+mute-heard v L h =
     split (legal v)
-    (λ e. split (listens v (s .listened)) (λ f. rw (e, f) (remove-heard v (s .listened) h)) (λ f. rw (e, f) h))
+    (λ e. split (listens v L) (λ f. rw (e, f) (remove-heard v L h)) (λ f. rw (e, f) h))
     (λ e. rw e h)
 
 pub heard-fresh : Heard (fresh .listened)
@@ -300,12 +300,7 @@ polled-by-state (s, some k) = refl
 
 mute-kept : (u : ℕ) (s : State) → Kept s → Kept (mute-call u s .0)
 unfolding mute-call
-mute-kept u s k =
-    split (legal u)
-    (λ e. split (listens u (s .listened))
-    (λ f. rw (e, f) (listened-anew s k _ (remove-heard u (s .listened) (k .kept-listened))))
-    (λ f. rw (e, f) k))
-    (λ e. rw e k)
+mute-kept u s k = listened-anew s k _ (mute-heard u (s .listened) (k .kept-listened))
 
 reset-kept : (s : State) → Kept s → Kept (reset-call s)
 unfolding reset-call

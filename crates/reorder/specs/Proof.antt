@@ -16,7 +16,6 @@ use Rattle.table.specs.Order.{ℕ-order, keyed, tri}
 use Rattle.table.specs.Table.{any, find, store, remove, Ascending, find-store-same, find-store-other, ascending-store, ascending-remove, length-remove, find-remove-other, find-remove-same}
 use Rattle.rules.specs.declared.Cid.{Cid}
 use Rattle.rules.specs.Cid.{before, cid-order}
-use Rattle.rules.specs.Universe.{legal}
 use Rattle.settings.specs.declared.Settings.{Settings}
 use Rattle.settings.specs.declared.MergeChoice.the-variants.{HtpDmxMerge}
 use Rattle.pairs.specs.Table as pairs
@@ -55,31 +54,21 @@ record Quiet (s t : State) : Type 0 where
   quiet-sync : t .sync-pairs ≡ s .sync-pairs
   quiet-waiting : t .waiting ≡ s .waiting
 
-quiet-mute : (v : ℕ) (s : State) → Quiet s (mute-call v s .0)
-unfolding mute-call
-quiet-mute v s =
-    split (legal v)
-    (λ e. split (listens v (s .listened))
-    (λ f. rw (e, f) (record { quiet-data = refl; quiet-sync = refl; quiet-waiting = refl }))
-    (λ f. rw (e, f) (record { quiet-data = refl; quiet-sync = refl; quiet-waiting = refl })))
-    (λ e. rw e (record { quiet-data = refl; quiet-sync = refl; quiet-waiting = refl }))
-
 quiet-tell : (ts : List Telling) (s : State) → Quiet s (tell ts s)
-unfolding tell listen-call
+unfolding tell listen-call mute-call
 quiet-tell [] s = record { quiet-data = refl; quiet-sync = refl; quiet-waiting = refl }
 quiet-tell (listen us ∷ ts) s =
     let r = quiet-tell ts (listen-call us s .0) in
     record { quiet-data = r .quiet-data; quiet-sync = r .quiet-sync; quiet-waiting = r .quiet-waiting }
 quiet-tell (mute v ∷ ts) s =
     let r = quiet-tell ts (mute-call v s .0) in
-    let q = quiet-mute v s in
-    record { quiet-data = r .quiet-data ∙ q .quiet-data; quiet-sync = r .quiet-sync ∙ q .quiet-sync; quiet-waiting = r .quiet-waiting ∙ q .quiet-waiting }
+    record { quiet-data = r .quiet-data; quiet-sync = r .quiet-sync; quiet-waiting = r .quiet-waiting }
 
 heard-tell : (ts : List Telling) (s : State) → Heard (s .listened) → Heard (tell ts s .listened)
-unfolding tell listen-call
+unfolding tell listen-call mute-call
 heard-tell [] s h = h
 heard-tell (listen us ∷ ts) s h = heard-tell ts (listen-call us s .0) (listen-heard us (s .listened) h)
-heard-tell (mute v ∷ ts) s h = heard-tell ts (mute-call v s .0) (mute-heard v s h)
+heard-tell (mute v ∷ ts) s h = heard-tell ts (mute-call v s .0) (mute-heard v (s .listened) h)
 
 -- ── the machine: the model's step where space is enough ──
 fault : Timed → Option Told

@@ -65,7 +65,7 @@ releases now p vs n n′ rows rows′ store store′ out out′ r y l = record {
 
 -- ── holding ──
 -- an address that is refused leaves the list
-refused-list : (us L : List ℕ) → listen-all us L .1 ≢ listen.Listening → listen-all us L .0 ≡ L
+pub refused-list : (us L : List ℕ) → listen-all us L .1 ≢ listen.Listening → listen-all us L .0 ≡ L
 refused-list us L n =
     found (illegal us)
     (λ e. split (ltb most-listened (length (joined-by us L)))

@@ -7,7 +7,7 @@ use mathlib.Core.List.{List, []}
 use Prim.Native.Nat.{ℕ, _+_, _-_, _*_, _≤_, _<_}
 use native.Mathlib.Omega.{arith}
 use lib.Dec.{ltb}
-use lib.ListN.{length, take, drop, getD, set, length-take}
+use lib.ListN.{length, take, drop, getD, set, replicate, length-take, List·getD-eq-default}
 use lib.Seq.{getD-take}
 use borrow.Author.Tests.{le-leb, lt-leb, ltb-true, ltb-false}
 use Rattle.table.specs.Cases.{split, clash}
@@ -47,11 +47,12 @@ pub record SweptCall (n : ℕ) (rows : List (List ℕ)) (store : List ℕ) (now 
   pub quiet : any (λ (d : Dmx). not (fresh now d)) (waitingOf n rows store) ≡ false → (rows′ ≡ rows) × (store′ ≡ store)
 
 -- no data at all, whatever the memory holds
-abbrev pub Empty : ℕ → Type 0
-Empty n = (rows : List (List ℕ)) (store : List ℕ) → Room rows store → Kept n rows store × (waitingOf n rows store ≡ [])
+pub record Empty (n : ℕ) : Type 0 where
+  pub none-waits : (rows : List (List ℕ)) (store : List ℕ) → waitingOf n rows store ≡ []
+  pub kept : (rows : List (List ℕ)) (store : List ℕ) → Room rows store → Kept n rows store
 
 pub empty-zero : Empty 0
-empty-zero rows store r = (record { room = r; count-fits = omega arith; ascends = tt }, refl)
+empty-zero = record { none-waits = λ rows store. refl; kept = λ rows store r. record { room = r; count-fits = omega arith; ascends = tt } }
 
 yield : (n m : ℕ) (rows rows′ : List (List ℕ)) (store store′ : List ℕ) (ds : List Dmx) → Kept n rows store → Lent rows store rows′ store′ → m ≤ 64
     → waitingOf m rows′ store′ ≡ ds → Ascending ltb universeOf ds → Yields rows store rows′ store′ m ds
@@ -214,6 +215,17 @@ pub data-at : (n i : ℕ) (rows : List (List ℕ)) (store : List ℕ) (d : DmxDa
     → d ≡ getD (waitingOf n rows store) i nothing .head
 data-at n i rows store d h b l e =
     e ∙ sym (ap (λ (x : Dmx). x .head) (getD-take n (entries rows store) i nothing h) ∙ head-at rows store i (omega arith))
+
+-- past the last
+past : (n i : ℕ) (rows : List (List ℕ)) (store : List ℕ) → n ≤ i → getD (waitingOf n rows store) i nothing ≡ nothing
+past n i rows store h = List·getD-eq-default (waitingOf n rows store) nothing (omega (arith, length-take n (entries rows store)))
+
+pub data-past : (n i : ℕ) (rows : List (List ℕ)) (store : List ℕ) (d : DmxData) → n ≤ i → d ≡ headOf (replicate 9 0) → d ≡ getD (waitingOf n rows store) i nothing .head
+unfolding headOf
+data-past n i rows store d h e = e ∙ sym (ap (λ (x : Dmx). x .head) (past n i rows store h))
+
+pub values-past : (n i : ℕ) (rows : List (List ℕ)) (store : List ℕ) → n ≤ i → [] ≡ getD (waitingOf n rows store) i nothing .values
+values-past n i rows store h = sym (ap (λ (x : Dmx). x .values) (past n i rows store h))
 
 pub values-at : (n i m : ℕ) (rows : List (List ℕ)) (store : List ℕ) → Kept n rows store → i < n → m ≡ countOf (getD rows i [])
     → take (i * 513 + m - i * 513) (drop (i * 513) store) ≡ getD (waitingOf n rows store) i nothing .values

@@ -49,7 +49,7 @@ countOf row = min (getD row 8 0) 513
 abbrev pub entryOf : List ℕ → List ℕ → Dmx
 entryOf row block = dmx (headOf row) (take (countOf row) block)
 
--- what a read past the end gives; no call makes one
+-- what a read past the end gives
 abbrev pub nothing : Dmx
 nothing = entryOf [] []
 

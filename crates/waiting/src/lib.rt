@@ -628,23 +628,29 @@ impl Waiting {
         }
     }
 
-    // For a dump: the header of the i-th universe that waits.
+    // For a dump: the header of the i-th universe that waits; past the last, a header of zeros.
     pub fn waiting_data(self, rows: &[[u64; 9]; 64], i: usize) -> DmxData
-        requires { ⌜ (i < self .count) × (self .count ≤ 64) × (length (now rows) ≡ 64) ⌝ }
+        requires { ⌜ (self .count ≤ 64) × (length (now rows) ≡ 64) ⌝ }
         ensures { λ r. ⌜ ((store : List ℕ) → r ≡ getD (waitingOf (self .count) (now (rows .entry)) store) i nothing .head) ⌝ }
     {
-        let row = rows[i];
-        head_of(row)
+        if i < self.count {
+            let row = rows[i];
+            return head_of(row);
+        }
+        head_of([0u64; 9])
     }
 
-    // And its values, where they lie.
+    // And its values, where they lie; past the last, none.
     pub fn waiting_values<'a>(self, rows: &[[u64; 9]; 64], store: &'a [u8], i: usize) -> &'a [u8]
-        requires { ⌜ Kept (self .count) (now rows) (now store) × (i < self .count) ⌝ }
+        requires { ⌜ Kept (self .count) (now rows) (now store) ⌝ }
         ensures { λ r. ⌜ now r ≡ getD (waitingOf (self .count) (now (rows .entry)) (now (store .entry))) i nothing .values ⌝ }
     {
-        let row = rows[i];
-        let a = i * 513;
-        let b = a + count_of(row);
-        &store[a..b]
+        if i < self.count {
+            let row = rows[i];
+            let a = i * 513;
+            let b = a + count_of(row);
+            return &store[a..b];
+        }
+        &store[0..0]
     }
 }

@@ -1,7 +1,8 @@
--- The entry's header is its row's.
+-- The entry's header is its row's, and past the last that of a row of zeros.
 -- Assumes nothing.
-use Rattle.waiting.specs.Calls.{data-at}
+use Rattle.waiting.specs.Calls.{data-at, data-past}
 use borrow.Author.Needs.{needs}
+use native.Mathlib.Omega.{arith}
 use Rattle.waiting.proofs.Waiting.waiting_data.Statement.{statement}
 use Rattle.waiting.proofs.Waiting.waiting_data.Tie as tie
 
@@ -16,9 +17,20 @@ head-of-requires c κs = search needs
 
 returns : tie.Need-returns
 returns c =
-    let s = c .before .before in
+    let s = c .before .before .before .before in
     let v = s .args in
-    λ store. data-at (v .self .count) (v .i) (v .rows .now) store (c .head-of .result) (s .pre .0) (s .pre .1) (s .pre .2) (c .head-of .ensures)
+    λ store. data-at (v .self .count) (v .i) (v .rows .now) store (c .head-of .result) (c .before .before .if1 .taken) (s .pre .0) (s .pre .1) (c .head-of .ensures)
+
+head-of-requires-2 : tie.Need-head-of-requires-2
+head-of-requires-2 c κs = search needs
+
+returns-2 : tie.Need-returns-2
+returns-2 c =
+    let s = c .before .before .before in
+    let v = s .args in
+    λ store. data-past (v .self .count) (v .i) (v .rows .now) store (c .head-of2 .result) (omega arith) (c .head-of2 .ensures)
 
 pub waiting-data-spec : {M : Type 1} → statement M
-waiting-data-spec = tie.close (tie.spec mul-row element-copy-out-row head-of-requires returns)
+waiting-data-spec =
+    tie.close
+    (tie.spec mul-row element-copy-out-row head-of-requires returns head-of-requires-2 returns-2)

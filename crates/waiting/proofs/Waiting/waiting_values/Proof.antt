@@ -1,7 +1,8 @@
--- The entry's values are as many bytes of its block as its row counts.
+-- The entry's values are as many bytes of its block as its row counts; past the last there are none.
 -- Assumes nothing.
-use Rattle.waiting.specs.Calls.{values-at}
+use Rattle.waiting.specs.Calls.{values-at, values-past}
 use borrow.Author.Needs.{needs}
+use native.Mathlib.Omega.{arith}
 use Rattle.waiting.proofs.Waiting.waiting_values.Statement.{statement}
 use Rattle.waiting.proofs.Waiting.waiting_values.Tie as tie
 
@@ -31,9 +32,24 @@ part-result-end c = search needs
 
 returns : tie.Need-returns
 returns c =
+    let s = c .before .before .before .before .before .before in
+    let v = s .args in
+    values-at (v .self .count) (v .i) (c .before .count-of .result) (v .rows .now) (v .store .now) (s .pre) (c .before .before .before .if1 .taken) (c .before .count-of .ensures)
+
+sub-result-2 : tie.Need-sub-result-2
+sub-result-2 c = search needs
+
+part-result-start-2 : tie.Need-part-result-start-2
+part-result-start-2 c = search needs
+
+part-result-end-2 : tie.Need-part-result-end-2
+part-result-end-2 c = search needs
+
+returns-2 : tie.Need-returns-2
+returns-2 c =
     let s = c .before .before .before .before in
     let v = s .args in
-    values-at (v .self .count) (v .i) (c .before .count-of .result) (v .rows .now) (v .store .now) (s .pre .0) (s .pre .1) (c .before .count-of .ensures)
+    values-past (v .self .count) (v .i) (v .rows .now) (v .store .now) (omega arith)
 
 pub waiting-values-spec : {M : Type 1} → statement M
 waiting-values-spec =
@@ -47,4 +63,8 @@ waiting-values-spec =
     sub-result
     part-result-start
     part-result-end
-    returns)
+    returns
+    sub-result-2
+    part-result-start-2
+    part-result-end-2
+    returns-2)

@@ -1,0 +1,18 @@
+-- The rows of the mark are the sources.
+-- Assumes nothing.
+use mathlib.Core.Path.{sym, _∙_}
+use Rattle.readouts.specs.Reads.{listed-total}
+use borrow.Author.Needs.{needs}
+use Rattle.readouts.proofs.listed_count.Statement.{statement}
+use Rattle.readouts.proofs.listed_count.Tie as tie
+
+count-sources-requires : tie.Need-count-sources-requires
+count-sources-requires c κs = search needs
+
+returns : tie.Need-returns
+returns c =
+    let v = c .before .args in
+    λ names pages universes. c .count-sources .ensures ∙ sym (listed-total (v .discovery) (v .sources .now) names pages universes)
+
+pub listed-count-spec : {M : Type 1} → statement M
+listed-count-spec = tie.close (tie.spec count-sources-requires returns)

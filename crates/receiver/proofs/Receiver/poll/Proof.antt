@@ -1,0 +1,78 @@
+-- The store is tested; then what the poll ensures is the call's outcome.
+-- Assumes nothing.
+use mathlib.Core.Path.{refl}
+use denote.Enum.Declared.{tagOf}
+use Rattle.space.proofs.Measured as measures
+use Rattle.waiting.specs.Entries.{lent-none}
+use Rattle.sequences.specs.View.{lent}
+use Rattle.receiver.specs.View.{with-numbers, with-held}
+use Rattle.receiver.specs.Laws.{short-of, not-short, room-for}
+use Rattle.receiver.specs.Further.{does-poll-short, does-poll, does-poll-told}
+use borrow.Author.Needs.{needs}
+use Rattle.receiver.proofs.Receiver.poll.Statement.{statement}
+use Rattle.receiver.proofs.Receiver.poll.Tie as tie
+
+test-waiting-store-requires : tie.Need-test-waiting-store-requires
+test-waiting-store-requires c κs = search needs
+
+enum-known-needed : tie.Need-enum-known-needed
+enum-known-needed c = search needs
+
+same-length : tie.Need-same-length
+same-length c = search needs
+
+returns : tie.Need-returns
+returns c =
+    let v = c .before .before .before .before .before .before .args in
+    (λ m. does-poll-short (v .settings) (v .reading) (v .self) (with-numbers (lent (v .data-pairs .now) (v .data-sources .now) (v .sync-pairs .now) (v .sync-sources .now)) (with-held (v .rows .now) (v .store .now) m)) (c .before .needed .given .0 .0) (short-of _ _ _ (c .before .before .before .test-waiting-store .ensures) (c .before .needed .given .1)), lent-none (v .rows .now) (v .store .now))
+
+poll-requires : tie.Need-poll-requires
+poll-requires c κs =
+    let s = c .before .before .before .before .before .before .before .before .before .before .before .before .before .before in
+    (s .pre .0, s .pre .1 (room-for _ _ (not-short (tagOf measures.the-type) (λ n. refl) _ _ (c .before .before .before .before .before .before .before .before .before .before .before .test-waiting-store .ensures) (c .before .before .before .before .before .before .before .before .before .before .match .keys2))))
+
+enum-known-said : tie.Need-enum-known-said
+enum-known-said c = search needs
+
+enum-told : tie.Need-enum-told
+enum-told c = search needs
+
+same-length-2 : tie.Need-same-length-2
+same-length-2 c = search needs
+
+returns-2 : tie.Need-returns-2
+returns-2 c =
+    let p = c .before .before .before .before .before .before in
+    let v = c .before .before .before .before .before .before .before .before .before .before .before .before .before .before .before .before .before .before .before .before .before .args in (
+      λ m. does-poll (v .settings) (v .reading) (v .self) (with-numbers (lent (v .data-pairs .now) (v .data-sources .now) (v .sync-pairs .now) (v .sync-sources .now)) (with-held (v .rows .now) (v .store .now) m))
+          _ _ _ _ _ _ (not-short (tagOf measures.the-type) (λ n. refl) _ _ (c .before .before .before .before .before .before .before .before .before .before .before .before .before .before .before .before .before .before .test-waiting-store .ensures) (c .before .before .before .before .before .before .before .before .before .before .before .before .before .before .before .before .before .match .keys2)) (p .poll .ensures) (c .enum-told .given .1),
+      p .poll .ensures .lent-waiting,
+    )
+
+same-length-3 : tie.Need-same-length-3
+same-length-3 c = search needs
+
+returns-3 : tie.Need-returns-3
+returns-3 c =
+    let p = c .before .before .before .before .before .before .before in
+    let v = c .before .before .before .before .before .before .before .before .before .before .before .before .before .before .before .before .before .before .before .before .before .before .args in (
+      λ m. does-poll-told (v .settings) (v .reading) (v .self) (with-numbers (lent (v .data-pairs .now) (v .data-sources .now) (v .sync-pairs .now) (v .sync-sources .now)) (with-held (v .rows .now) (v .store .now) m))
+          _ _ _ _ _ _ (not-short (tagOf measures.the-type) (λ n. refl) _ _ (c .before .before .before .before .before .before .before .before .before .before .before .before .before .before .before .before .before .before .before .test-waiting-store .ensures) (c .before .before .before .before .before .before .before .before .before .before .before .before .before .before .before .before .before .before .match .keys2)) (p .poll .ensures) _ _ (c .before .said .given .1),
+      p .poll .ensures .lent-waiting,
+    )
+
+pub poll-spec : {M : Type 1} → statement M
+poll-spec =
+    tie.close
+    (tie.spec
+    test-waiting-store-requires
+    enum-known-needed
+    same-length
+    returns
+    poll-requires
+    enum-known-said
+    enum-told
+    same-length-2
+    returns-2
+    same-length-3
+    returns-3)

@@ -1,0 +1,92 @@
+-- Preview, termination and listening decide in this order; then what the arrival ensures is the step's outcome.
+-- Assumes nothing.
+use mathlib.Core.Path.{sym, _∙_}
+use Rattle.sequences.specs.View.{lent}
+use Rattle.steps.specs.View.{packetOf}
+use Rattle.receiver.specs.View.{memory}
+use Rattle.receiver.specs.Laws.{takes-unwanted, takes-ended, takes-unheard, takes-data}
+use borrow.Author.Needs.{needs}
+use Rattle.receiver.proofs.Receiver.take_data.Statement.{statement}
+use Rattle.receiver.proofs.Receiver.take_data.Tie as tie
+
+is-unwanted-requires : tie.Need-is-unwanted-requires
+is-unwanted-requires c κs = search needs
+
+returns : tie.Need-returns
+returns c =
+    let v = c .before .before .before .before .before .before .args in
+    takes-unwanted (v .settings) (v .reading) (packetOf (v .packet) (v .values .now)) (v .self) (memory (v .data-pairs .now) (v .data-sources .now) (v .sync-pairs .now) (v .sync-sources .now) (v .rows .now) (v .store .now) (v .heard .now) (v .sources .now) (v .names .now) (v .pages .now) (v .universes .now)) (v .out .now) (sym (c .before .is-unwanted .ensures) ∙ c .if1 .taken)
+
+end-stream-requires : tie.Need-end-stream-requires
+end-stream-requires c κs = search needs
+
+same-length : tie.Need-same-length
+same-length c = search needs
+
+returns-2 : tie.Need-returns-2
+returns-2 c =
+    let t = c .before .before .before in
+    let u = c .before .before .before .before .before .before .before .before .before .before .before .before in
+    let v = c .before .before .before .before .before .before .before .before .before .before .before .before .before .before .before .before .before .before .args in
+    takes-ended (v .settings) (v .reading) (packetOf (v .packet) (v .values .now)) (v .self) (memory (v .data-pairs .now) (v .data-sources .now) (v .sync-pairs .now) (v .sync-sources .now) (v .rows .now) (v .store .now) (v .heard .now) (v .sources .now) (v .names .now) (v .pages .now) (v .universes .now)) (v .out .now)
+    (t .end-stream .result) (lent (t .end-stream .last .1 .0) (t .end-stream .last .1 .1 .0) (t .end-stream .last .1 .1 .1 .0) (t .end-stream .last .1 .1 .1 .1 .0)) (t .end-stream .last .1 .1 .1 .1 .1 .1 .1 .0) (t .end-stream .last .1 .1 .1 .1 .1 .1 .1 .1 .0) _
+    (sym (u .before .is-unwanted .ensures) ∙ u .if1 .left) (c .before .before .before .before .before .before .before .before .before .before .before .if2 .taken) (t .end-stream .ensures (memory (v .data-pairs .now) (v .data-sources .now) (v .sync-pairs .now) (v .sync-sources .now) (v .rows .now) (v .store .now) (v .heard .now) (v .sources .now) (v .names .now) (v .pages .now) (v .universes .now))) (rw (c .if3 .taken))
+
+same-length-2 : tie.Need-same-length-2
+same-length-2 c = search needs
+
+returns-3 : tie.Need-returns-3
+returns-3 c =
+    let t = c .before .before .before in
+    let u = c .before .before .before .before .before .before .before .before .before .before .before .before in
+    let v = c .before .before .before .before .before .before .before .before .before .before .before .before .before .before .before .before .before .before .args in
+    takes-ended (v .settings) (v .reading) (packetOf (v .packet) (v .values .now)) (v .self) (memory (v .data-pairs .now) (v .data-sources .now) (v .sync-pairs .now) (v .sync-sources .now) (v .rows .now) (v .store .now) (v .heard .now) (v .sources .now) (v .names .now) (v .pages .now) (v .universes .now)) (v .out .now)
+    (t .end-stream .result) (lent (t .end-stream .last .1 .0) (t .end-stream .last .1 .1 .0) (t .end-stream .last .1 .1 .1 .0) (t .end-stream .last .1 .1 .1 .1 .0)) (t .end-stream .last .1 .1 .1 .1 .1 .1 .1 .0) (t .end-stream .last .1 .1 .1 .1 .1 .1 .1 .1 .0) _
+    (sym (u .before .is-unwanted .ensures) ∙ u .if1 .left) (c .before .before .before .before .before .before .before .before .before .before .before .if2 .taken) (t .end-stream .ensures (memory (v .data-pairs .now) (v .data-sources .now) (v .sync-pairs .now) (v .sync-sources .now) (v .rows .now) (v .store .now) (v .heard .now) (v .sources .now) (v .names .now) (v .pages .now) (v .universes .now))) (rw (c .if3 .left))
+
+is-listening-requires : tie.Need-is-listening-requires
+is-listening-requires c κs = search needs
+
+arrive-data-requires : tie.Need-arrive-data-requires
+arrive-data-requires c κs = search needs
+
+same-length-3 : tie.Need-same-length-3
+same-length-3 c = search needs
+
+same-length-4 : tie.Need-same-length-4
+same-length-4 c = search needs
+
+returns-4 : tie.Need-returns-4
+returns-4 c =
+    let a = c .before .before .before .before .before .before .before in
+    let l = c .before .before .before .before .before .before .before .before .before .before .before .before .before .before .before .before in
+    let u = c .before .before .before .before .before .before .before .before .before .before .before .before .before .before .before .before .before .before .before .before .before .before .before .before in
+    let v = c .before .before .before .before .before .before .before .before .before .before .before .before .before .before .before .before .before .before .before .before .before .before .before .before .before .before .before .before .before .before .args in
+    takes-data (v .settings) (v .reading) (packetOf (v .packet) (v .values .now)) (v .self) (memory (v .data-pairs .now) (v .data-sources .now) (v .sync-pairs .now) (v .sync-sources .now) (v .rows .now) (v .store .now) (v .heard .now) (v .sources .now) (v .names .now) (v .pages .now) (v .universes .now)) (v .out .now)
+    (a .arrive-data .result .«data») (a .arrive-data .last .1 .1 .1 .0) (a .arrive-data .last .1 .1 .1 .1 .0) (a .arrive-data .result .waiting) (a .arrive-data .result .listened) (a .arrive-data .last .1 .1 .1 .1 .1 .0) (a .arrive-data .last .1 .1 .1 .1 .1 .1 .0) (a .arrive-data .last .1 .1 .1 .1 .1 .1 .1 .0) (a .arrive-data .last .1 .1 .1 .1 .1 .1 .1 .1 .1 .1 .1 .1 .0) (a .arrive-data .result .answer)
+    (sym (u .before .is-unwanted .ensures) ∙ u .if1 .left) (c .before .before .before .before .before .before .before .before .before .before .before .before .before .before .before .before .before .before .before .before .before .before .before .if2 .left) (sym (l .before .is-listening .ensures) ∙ l .if4 .taken) (a .arrive-data .ensures)
+
+returns-5 : tie.Need-returns-5
+returns-5 c =
+    let u = c .before .before .before .before .before .before .before .before in
+    let v = c .before .before .before .before .before .before .before .before .before .before .before .before .before .before .args in
+    takes-unheard (v .settings) (v .reading) (packetOf (v .packet) (v .values .now)) (v .self) (memory (v .data-pairs .now) (v .data-sources .now) (v .sync-pairs .now) (v .sync-sources .now) (v .rows .now) (v .store .now) (v .heard .now) (v .sources .now) (v .names .now) (v .pages .now) (v .universes .now)) (v .out .now)
+    (sym (u .before .is-unwanted .ensures) ∙ u .if1 .left) (c .before .before .before .before .before .before .before .if2 .left) (sym (c .before .is-listening .ensures) ∙ c .if4 .left)
+
+pub take-data-spec : {M : Type 1} → statement M
+take-data-spec =
+    tie.close
+    (tie.spec
+    is-unwanted-requires
+    returns
+    end-stream-requires
+    same-length
+    returns-2
+    same-length-2
+    returns-3
+    is-listening-requires
+    arrive-data-requires
+    same-length-3
+    same-length-4
+    returns-4
+    returns-5)

@@ -1,0 +1,396 @@
+-- One law for each return of the receiver's calls.
+-- Assumes nothing.
+use mathlib.Core.Path.{_≡_, refl, sym, ap, _∙_, subst}
+use mathlib.Core.Bool.{Bool, true, false, cond, not, _&&_}
+use mathlib.Core.Option.{Option, none, some}
+use mathlib.Core.List.{List, [], _∷_}
+use mathlib.Core.Logic.{_⊎_, inl, inr}
+use Prim.Native.Nat.{ℕ, _+_, _≤_}
+use native.Mathlib.Omega.{arith}
+use lib.Dec.{ltb}
+use lib.ListN.{length}
+use borrow.Author.Tests.{ltb-false}
+use Rattle.table.specs.Cases.{split, found, clash}
+use Rattle.rules.specs.declared.Cid.{Cid}
+use Rattle.settings.specs.declared.Settings.{Settings}
+use Rattle.pairs.specs.View.{Rows, answerOf}
+use Rattle.pairs.specs.Table.{Key, key, pairAt}
+use Rattle.pairs.specs.declared.DataTable.{DataTable}
+use Rattle.pairs.specs.declared.SyncTable.{SyncTable}
+use Rattle.pairs.specs.declared.SweepAnswer.{SweepAnswer}
+use Rattle.pairs.specs.declared.SweepAnswer.the-variants.{Quiet, TimedOut}
+use Rattle.sequences.specs.declared.SequenceNumbering.{SequenceNumbering}
+use Rattle.sequences.specs.Sequences.{numbers, removed}
+use Rattle.sequences.specs.View as numbered
+use Rattle.sequences.specs.Laws.{answer-some, answer-none}
+use Rattle.waiting.specs.declared.Waiting.{Waiting}
+use Rattle.waiting.specs.Records.{records, over, most-bytes}
+use Rattle.waiting.specs.Entries.{waitingOf, store-length, lent-none, lent-then}
+use Rattle.waiting.specs.Entries as waiting
+use Rattle.listening.specs.declared.Listened.{Listened}
+use Rattle.discovery.specs.declared.Discovery.{Discovery}
+use Rattle.discovery.specs.declared.PageArrived.{PageArrived}
+use Rattle.merge.specs.Merge.{most-values}
+use Rattle.discovery.specs.Discovery.{Announcement, most-name, most-universes, arrived, ended}
+use Rattle.discovery.specs.View.{discoveredOf, Holds}
+use Rattle.discovery.specs.View as discovery
+use Rattle.discovery.specs.Arrive.{Arrival}
+use Rattle.space.specs.declared.Measured.{Measured}
+use Rattle.space.specs.declared.Measured.the-variants as measured
+use Rattle.space.specs.Space.{spaceOf, shortage, excess}
+use Rattle.model.specs.declared.StepAnswer.{StepAnswer}
+use Rattle.model.specs.declared.StepAnswer.the-variants as says
+use Rattle.model.specs.Packet.{DataPacket, SyncPacket, Packet, data-packet, sync-packet, discovery-packet, first-of, too-long, over as longer}
+use Rattle.model.specs.State.{State, listens}
+use Rattle.model.specs.Step as model
+use Rattle.model.specs.Step.{Space, Outcome, outcome, short, too-short, waiting-bytes, page-bytes, poll, polled, data-step, terminated, known, sync-step, discovery-step, listed, packet-step, step}
+use Rattle.steps.specs.View.{Polls, Arrives, Synchronises, rowsOf, lentOf}
+use Rattle.receiver.specs.declared.Receiver.{Receiver}
+use Rattle.receiver.specs.declared.DiscoveryPacket.{DiscoveryPacket}
+use Rattle.receiver.specs.View.{Memory, memory, numbersIn, with-numbers, with-sync-numbers, with-held, with-heard, with-found, stateOf, spaceIn, pool-length, Kept, longOf, announcementOf, Opens, Ends, Takes, Steps}
+
+none-some {ℓ} : {C : Type ℓ} {A : Type 0} {a : A} → none ≡ some a → C
+none-some e = let z : _≡_ {A = ℕ} 0 1 = cc in absurd (omega arith)
+
+-- ── lengths ──
+pub short-of : (x : Measured) (o : Option ℕ) (n : ℕ) → x ≡ shortage o → x ≡ measured.TooShort n → o ≡ some n
+short-of x none n e f = let z : _≡_ {A = ℕ} 0 1 = cc in absurd (omega arith)
+short-of x (some k) n e f = let z : k ≡ n = cc in ap {B = Option ℕ} some z
+
+-- by the places of the cases in the enum, as a test tells them
+module _ (tag : Measured → ℕ) where
+  pub not-short : ((n : ℕ) → tag (measured.TooShort n) ≡ 2) → (x : Measured) (o : Option ℕ) → x ≡ shortage o → (tag x ≡ 0) ⊎ (tag x ≡ 1) → o ≡ none
+  not-short t x none e k = refl
+  not-short t x (some n) e (inl k) = let z : _≡_ {A = ℕ} 2 0 = sym (ap tag e ∙ t n) ∙ k in absurd (omega arith)
+  not-short t x (some n) e (inr k) = let z : _≡_ {A = ℕ} 2 1 = sym (ap tag e ∙ t n) ∙ k in absurd (omega arith)
+
+  pub not-long : ((n : ℕ) → tag (measured.TooLong n) ≡ 1) → (x : Measured) → (tag x ≡ 0) ⊎ (tag x ≡ 2) → longOf x ≡ none
+  not-long t measured.Fits k = refl
+  not-long t (measured.TooLong n) (inl k) = let z : _≡_ {A = ℕ} 1 0 = sym (t n) ∙ k in absurd (omega arith)
+  not-long t (measured.TooLong n) (inr k) = let z : _≡_ {A = ℕ} 1 2 = sym (t n) ∙ k in absurd (omega arith)
+  not-long t (measured.TooShort n) k = refl
+
+-- what a store that is long enough says of its length
+pub room-for : (needed room : ℕ) → short needed room ≡ none → needed ≤ room
+room-for needed room e = split (ltb room needed) (λ h. none-some (sym (rw h at e))) (λ h. ltb-false room needed h)
+
+first-none : (a b : Option ℕ) → first-of a b ≡ none → (a ≡ none) × (b ≡ none)
+first-none none b e = (refl, e)
+first-none (some n) b e = none-some (sym e)
+
+pub record Long (out store universes : List ℕ) : Type 0 where
+  pub output : most-bytes ≤ length out
+  pub held : store-length ≤ length store
+  pub found : pool-length ≤ length universes
+
+pub long-enough : (out store universes : List ℕ) → too-short (spaceOf out store universes) ≡ none → Long out store universes
+unfolding too-short
+long-enough out store universes e =
+    let a = first-none _ _ e in
+    let b = first-none _ _ (a .1) in
+    let c = room-for page-bytes (length universes + length universes) (b .1) in
+    record { output = room-for _ _ (a .0); held = room-for _ _ (b .0); found = omega arith }
+
+-- the packet's own parts, as measured
+pub long-of : (o : Option ℕ) → longOf (excess o) ≡ o
+long-of none = refl
+long-of (some n) = refl
+
+over-room : (most : ℕ) (part : List ℕ) → longer most part ≡ none → length part ≤ most
+unfolding longer
+over-room most part e = split (ltb most (length part)) (λ h. none-some (sym (rw h at e))) (λ h. ltb-false most (length part) h)
+
+pub long-data : (d : DataPacket) (x : Measured) → x ≡ excess (longer most-values (d .values)) → too-long (data-packet d) ≡ longOf x
+unfolding too-long
+long-data d x e = sym (ap longOf e ∙ long-of _)
+
+pub long-sync : (y : SyncPacket) → too-long (sync-packet y) ≡ none
+unfolding too-long
+long-sync y = refl
+
+pub long-announcement : (a : Announcement) (x : Measured) → x ≡ excess (first-of (longer most-name (a .name)) (longer most-universes (a .universes))) → too-long (discovery-packet a) ≡ longOf x
+unfolding too-long
+long-announcement a x e = sym (ap longOf e ∙ long-of _)
+
+pub values-fit : (d : DataPacket) → too-long (data-packet d) ≡ none → length (d .values) ≤ 513
+unfolding too-long
+values-fit d e = over-room most-values (d .values) e
+
+pub name-fits : (a : Announcement) → too-long (discovery-packet a) ≡ none → length (a .name) ≤ 63
+unfolding too-long
+name-fits a e = over-room most-name (a .name) (first-none _ _ e .0)
+
+pub list-fits : (a : Announcement) → too-long (discovery-packet a) ≡ none → length (a .universes) ≤ 512
+unfolding too-long
+list-fits a e = over-room most-universes (a .universes) (first-none (longer most-name (a .name)) (longer most-universes (a .universes)) e .1)
+
+-- ── the opening ──
+step-short : (m : Space) (S : Settings) (now n : ℕ) (p : Packet) (s : State) → too-short m ≡ some n → step m S now p s ≡ outcome s (says.TooShort n)
+unfolding step
+step-short m S now n p s e = rw (e, step)
+
+step-long : (m : Space) (S : Settings) (now n : ℕ) (p : Packet) (s : State) → too-short m ≡ none → too-long p ≡ some n → step m S now p s ≡ outcome s (says.TooLong n)
+unfolding step model.measured
+step-long m S now n p s e f = rw (e, step, f, model.measured)
+
+step-polled : (m : Space) (S : Settings) (now : ℕ) (p : Packet) (s s′ : State) (o : Option Key) → too-short m ≡ none → too-long p ≡ none → poll S now s ≡ (s′, o)
+    → step m S now p s ≡ polled S now p (s′, o)
+unfolding step model.measured
+step-polled m S now p s s′ o e f g = rw (e, step, f, model.measured) (ap (polled S now p) g)
+
+module _ (S : Settings) (now : ℕ) (long : Option ℕ) (r : Receiver) (m : Memory) (out : List ℕ) where
+  pub opens-short : (n : ℕ) → too-short (spaceIn m out) ≡ some n → Opens S now long r m out r m true (says.TooShort n)
+  opens-short n z = record {
+    ends = λ t p e. step-short (spaceIn m out) S now n p (stateOf r m) z;
+    goes-on = λ f. clash refl f;
+    fits = λ f. clash refl f;
+    all-left = λ k e. (refl, refl);
+    kept = λ k. k;
+    lent-waiting = lent-none (m .rows) (m .store);
+  }
+
+  pub opens-long : (n : ℕ) → too-short (spaceIn m out) ≡ none → long ≡ some n → Opens S now long r m out r m true (says.TooLong n)
+  opens-long n z l = record {
+    ends = λ t p e. step-long (spaceIn m out) S now n p (stateOf r m) z (e ∙ l);
+    goes-on = λ f. clash refl f;
+    fits = λ f. clash refl f;
+    all-left = λ k e. (refl, refl);
+    kept = λ k. k;
+    lent-waiting = lent-none (m .rows) (m .store);
+  }
+
+  module _ {q : SequenceNumbering} {n : numbered.Lent} {w : Waiting} {rows : Rows} {store : List ℕ} {a : SweepAnswer} (z : too-short (spaceIn m out) ≡ none) (l : long ≡ none)
+      (p : Polls S now (r .sequences) (numbersIn m) (r .waiting .count) (m .rows) (m .store) q n (w .count) rows store a) where
+    next : Receiver
+    next = record { sequences = q; waiting = w; listened = r .listened; discovery = r .discovery }
+
+    left : Memory
+    left = with-numbers n (with-held rows store m)
+
+    stepped : (o : Option Key) → p .timed-out ≡ o → (x : Packet) → too-long x ≡ long → step (spaceIn m out) S now x (stateOf r m) ≡ polled S now x (stateOf next left, o)
+    unfolding next left
+    stepped o e x f =
+        step-polled (spaceIn m out) S now x (stateOf r m) (stateOf next left) o z (f ∙ l)
+        (p .state-is (stateOf r m) refl refl refl ∙ ap {B = State × Option Key} (λ (k : Option Key). (stateOf next left, k)) e)
+
+    keeps : Kept r m → Kept next left
+    unfolding next left
+    keeps k = record { kept-sequences = p .kept; kept-waiting = λ h. p .kept-waiting; kept-listened = k .kept-listened; kept-discovery = k .kept-discovery }
+
+    tested : (k : ℕ) → first-of (too-short (spaceIn m out)) long ≡ some k → ⊥
+    tested k e = none-some (sym (ap (λ (x : Option ℕ). first-of x long) z ∙ l) ∙ e)
+
+    pub opens-told : (c : Cid) (u : ℕ) → a ≡ TimedOut c u
+        → Opens S now long r m out (record { sequences = q; waiting = w; listened = r .listened; discovery = r .discovery }) (with-numbers n (with-held rows store m)) true (says.UniverseTimeout c u)
+    unfolding next left polled
+    opens-told c u e = record {
+      ends = λ t x f. stepped (some (key c u)) (answer-some (p .timed-out) c u (sym e ∙ p .answer-is)) x f;
+      goes-on = λ f. clash refl f;
+      fits = λ f. clash refl f;
+      all-left = λ k f. absurd (tested k f);
+      kept = keeps;
+      lent-waiting = p .lent-waiting;
+    }
+
+    pub opens-quiet : a ≡ Quiet
+        → Opens S now long r m out (record { sequences = q; waiting = w; listened = r .listened; discovery = r .discovery }) (with-numbers n (with-held rows store m)) false says.Nothing
+    unfolding next left polled
+    opens-quiet e = record {
+      ends = λ t. clash t refl;
+      goes-on = λ t x f. stepped none (answer-none (p .timed-out) (sym e ∙ p .answer-is)) x f;
+      fits = λ f. (z, l);
+      all-left = λ k f. absurd (tested k f);
+      kept = keeps;
+      lent-waiting = p .lent-waiting;
+    }
+
+-- what the parts of a step presuppose, where the opening let it go on
+module _ (S : Settings) (now : ℕ) (long : Option ℕ) (r : Receiver) (m : Memory) (out : List ℕ) (r′ : Receiver) (m′ : Memory) (stopped : Bool) (a : StepAnswer)
+    (k : Kept r m) (o : Opens S now long r m out r′ m′ stopped a) (e : stopped ≡ false) where
+  enough : Long out (m .store) (m .universes)
+  enough = long-enough out (m .store) (m .universes) (o .fits e .0)
+
+  pub ready-output : 35072 ≤ length out
+  ready-output = enough .output
+
+  pub ready-held : waiting.Kept (r′ .waiting .count) (m′ .rows) (m′ .store)
+  ready-held = let h = enough .held in let l = o .lent-waiting .store-same in o .kept k .kept-waiting (omega arith)
+
+  pub ready-found : m′ .universes ≡ m .universes → discovery.Kept (r′ .discovery) (m′ .sources) (m′ .names) (m′ .pages) (m′ .universes)
+  ready-found z = let h = enough .found in let l = ap (λ (x : List ℕ). length x) z in o .kept k .kept-discovery (omega arith)
+
+-- ── a packet that does nothing ──
+module _ (S : Settings) (now : ℕ) (p : Packet) (r : Receiver) (m : Memory) (out : List ℕ) where
+  pub takes-nothing : (a : StepAnswer) → packet-step S now p (stateOf r m) ≡ outcome (stateOf r m) a → Takes S now p r m out r m out a
+  unfolding records
+  takes-nothing a e = record { released = []; outcome-is = e; written = refl; kept = λ k. k; lent-waiting = lent-none (m .rows) (m .store) }
+
+-- ── 4. synchronisation ──
+sync-unheard : (S : Settings) (now : ℕ) (y : SyncPacket) (s : State) → listens (y .address) (s .listened) ≡ false → packet-step S now (sync-packet y) s ≡ outcome s says.Nothing
+unfolding packet-step sync-step
+sync-unheard S now y s e = rw e
+
+sync-heard : (S : Settings) (now : ℕ) (y : SyncPacket) (s : State) → listens (y .address) (s .listened) ≡ true → packet-step S now (sync-packet y) s ≡ model.sync-arrival S now y s
+unfolding packet-step sync-step
+sync-heard S now y s e = rw e
+
+module _ (S : Settings) (now : ℕ) (y : SyncPacket) (r : Receiver) (m : Memory) (out : List ℕ) where
+  pub takes-sync-unheard : listens (y .address) (stateOf r m .listened) ≡ false → Takes S now (sync-packet y) r m out r m out says.Nothing
+  takes-sync-unheard e = takes-nothing S now (sync-packet y) r m out says.Nothing (sync-unheard S now y (stateOf r m) e)
+
+  pub takes-sync : (t : SyncTable) (sp ss : Rows) (w : Waiting) (rows : Rows) (store out′ : List ℕ) (a : StepAnswer) → listens (y .address) (stateOf r m .listened) ≡ true
+      → Synchronises S now y (rowsOf (r .sequences .sync .table) (m .sync-pairs) (m .sync-sources)) (r .waiting .count) (m .rows) (m .store) out (rowsOf (t .table) sp ss) (w .count) rows store out′ a
+      → Takes S now (sync-packet y) r m out (record { sequences = record { «data» = r .sequences .«data»; sync = t }; waiting = w; listened = r .listened; discovery = r .discovery })
+      (with-sync-numbers sp ss (with-held rows store m)) out′ a
+  takes-sync t sp ss w rows store out′ a e y′ = record {
+    released = y′ .released;
+    outcome-is = sync-heard S now y (stateOf r m) e ∙ y′ .outcome-is (stateOf r m) refl refl;
+    written = y′ .written;
+    kept = λ k. record {
+      kept-sequences = record { kept-data = k .kept-sequences .kept-data; kept-sync = y′ .kept };
+      kept-waiting = λ h. y′ .kept-waiting;
+      kept-listened = k .kept-listened;
+      kept-discovery = k .kept-discovery;
+    };
+    lent-waiting = y′ .lent-waiting;
+  }
+
+-- ── 5. discovery ──
+module _ (S : Settings) (now : ℕ) (p : DiscoveryPacket) (name list : List ℕ) (r : Receiver) (m : Memory) (out : List ℕ) where
+  pub takes-discovery : (d : PageArrived) (sources names pages : Rows) (universes : List ℕ) (a : StepAnswer)
+      → Arrival (r .discovery) (m .sources) (m .names) (m .pages) (m .universes) now (announcementOf p name list) d sources names pages universes → a ≡ listed S (d .answer)
+      → Takes S now (discovery-packet (announcementOf p name list)) r m out
+      (record { sequences = r .sequences; waiting = r .waiting; listened = r .listened; discovery = d .discovery }) (with-found sources names pages universes m) out a
+  unfolding packet-step discovery-step records
+  takes-discovery d sources names pages universes a t e =
+      let g = arrived now (announcementOf p name list) (stateOf r m .discovered) in
+      let u : g .0 ≡ discoveredOf (d .discovery) sources names pages universes = sym (t .took .seen) in
+      let v : listed S (g .1) ≡ a = sym (ap (listed S) (t .took .answered)) ∙ sym e in
+      record {
+        released = [];
+        outcome-is = λ i. outcome (model.with-discovered (u i) (stateOf r m)) (v i);
+        written = refl;
+        kept = λ k. record {
+          kept-sequences = k .kept-sequences;
+          kept-waiting = k .kept-waiting;
+          kept-listened = k .kept-listened;
+          kept-discovery = λ h. t .took .kept;
+        };
+        lent-waiting = lent-none (m .rows) (m .store);
+      }
+
+-- ── 3. data ──
+pub unwanted-off : (p b : Bool) → b ≡ true → false ≡ p && not b
+unwanted-off true b e = rw e
+unwanted-off false b e = refl
+
+pub unwanted-on : (p b : Bool) → b ≡ false → p ≡ p && not b
+unwanted-on true b e = rw e
+unwanted-on false b e = refl
+
+-- a stream that ends: the tables' call says by the unknown pair what the model says by the known one
+removed-terminated : (d : DataPacket) (s : State)
+    → terminated d s ≡ (let n = removed (key (d .cid) (d .universe)) (numbers (s .data-pairs) (s .sync-pairs)) in
+    record { data-pairs = n .data-table; sync-pairs = n .sync-table; waiting = s .waiting; listened = s .listened; discovered = ended (d .cid) (d .universe) (s .discovered) })
+unfolding terminated removed
+removed-terminated d s =
+    found (pairAt (key (d .cid) (d .universe)) (s .data-pairs .pairs)) (λ e. rw e) (λ x e. rw e)
+
+pub ends-stream : (c : Cid) (u : ℕ) (r : Receiver) (m : Memory) (q : SequenceNumbering) (n : numbered.Lent) (d : Discovery) (pages : Rows) (universes : List ℕ)
+    → numbered.numbersOf q n ≡ removed (key c u) (numbered.numbersOf (r .sequences) (numbersIn m)) → numbered.Kept q n
+    → Holds d (m .sources) (m .names) pages universes (ended c u (stateOf r m .discovered))
+    → Ends c u r m (record { sequences = q; waiting = r .waiting; listened = r .listened; discovery = d }) (with-numbers n (with-found (m .sources) (m .names) pages universes m))
+ends-stream c u r m q n d pages universes e k h = record {
+  state-is = λ x f g.
+      removed-terminated x (stateOf r m)
+      ∙ (λ i. (let z = removed (key (f i) (g i)) (numbered.numbersOf (r .sequences) (numbersIn m)) in
+      record { data-pairs = z .data-table; sync-pairs = z .sync-table; waiting = stateOf r m .waiting; listened = stateOf r m .listened; discovered = ended (f i) (g i) (stateOf r m .discovered) }))
+      ∙ (λ i. record { data-pairs = sym e i .data-table; sync-pairs = sym e i .sync-table; waiting = stateOf r m .waiting; listened = stateOf r m .listened; discovered = sym (h .seen) i });
+  kept = λ x. record { kept-sequences = k; kept-waiting = x .kept-waiting; kept-listened = x .kept-listened; kept-discovery = λ l. h .kept };
+}
+
+module _ (S : Settings) (now : ℕ) (d : DataPacket) (s : State) where
+  data-unwanted : d .preview && not (S .«process_preview_data») ≡ true → packet-step S now (data-packet d) s ≡ outcome s says.Nothing
+  unfolding packet-step data-step
+  data-unwanted e = rw e
+
+  data-ended : d .preview && not (S .«process_preview_data») ≡ false → d .terminated ≡ true
+      → packet-step S now (data-packet d) s ≡ outcome (terminated d s) (cond (S .«announce_stream_termination») (says.UniverseTerminated (d .cid) (d .universe)) says.Nothing)
+  unfolding packet-step data-step
+  data-ended e f = rw (e, f)
+
+  data-unheard : d .preview && not (S .«process_preview_data») ≡ false → d .terminated ≡ false → listens (d .universe) (s .listened) ≡ false
+      → packet-step S now (data-packet d) s ≡ outcome s says.Nothing
+  unfolding packet-step data-step
+  data-unheard e f g = rw (e, f, g)
+
+  data-heard : d .preview && not (S .«process_preview_data») ≡ false → d .terminated ≡ false → listens (d .universe) (s .listened) ≡ true
+      → packet-step S now (data-packet d) s ≡ model.data-arrival S now d s
+  unfolding packet-step data-step
+  data-heard e f g = rw (e, f, g)
+
+module _ (S : Settings) (now : ℕ) (d : DataPacket) (r : Receiver) (m : Memory) (out : List ℕ) where
+  pub takes-unwanted : d .preview && not (S .«process_preview_data») ≡ true → Takes S now (data-packet d) r m out r m out says.Nothing
+  takes-unwanted e = takes-nothing S now (data-packet d) r m out says.Nothing (data-unwanted S now d (stateOf r m) e)
+
+  pub takes-unheard : d .preview && not (S .«process_preview_data») ≡ false → d .terminated ≡ false → listens (d .universe) (stateOf r m .listened) ≡ false
+      → Takes S now (data-packet d) r m out r m out says.Nothing
+  takes-unheard e f g = takes-nothing S now (data-packet d) r m out says.Nothing (data-unheard S now d (stateOf r m) e f g)
+
+  pub takes-ended : (r′ : Receiver) (n : numbered.Lent) (pages : Rows) (universes : List ℕ) (a : StepAnswer) → d .preview && not (S .«process_preview_data») ≡ false → d .terminated ≡ true
+      → Ends (d .cid) (d .universe) r m r′ (with-numbers n (with-found (m .sources) (m .names) pages universes m))
+      → cond (S .«announce_stream_termination») (says.UniverseTerminated (d .cid) (d .universe)) says.Nothing ≡ a
+      → Takes S now (data-packet d) r m out r′ (with-numbers n (with-found (m .sources) (m .names) pages universes m)) out a
+  unfolding records
+  takes-ended r′ n pages universes a e f t g = record {
+    released = [];
+    outcome-is = data-ended S now d (stateOf r m) e f ∙ (λ i. outcome (t .state-is d refl refl i) (g i));
+    written = refl;
+    kept = t .kept;
+    lent-waiting = lent-none (m .rows) (m .store);
+  }
+
+  pub takes-data : (t : DataTable) (dp ds : Rows) (w : Waiting) (l : Listened) (rows : Rows) (store heard out′ : List ℕ) (a : StepAnswer)
+      → d .preview && not (S .«process_preview_data») ≡ false → d .terminated ≡ false → listens (d .universe) (stateOf r m .listened) ≡ true
+      → Arrives S now d (rowsOf (r .sequences .«data» .table) (m .data-pairs) (m .data-sources)) (lentOf (r .waiting .count) (r .listened) (m .rows) (m .store) (m .heard)) out
+      (rowsOf (t .table) dp ds) (lentOf (w .count) l rows store heard) out′ a
+      → Takes S now (data-packet d) r m out (record { sequences = record { «data» = t; sync = r .sequences .sync }; waiting = w; listened = l; discovery = r .discovery })
+      (with-numbers (numbered.lent dp ds (m .sync-pairs) (m .sync-sources)) (with-held rows store (with-heard heard m))) out′ a
+  takes-data t dp ds w l rows store heard out′ a e f g x = record {
+    released = x .released;
+    outcome-is = data-heard S now d (stateOf r m) e f g ∙ x .outcome-is (stateOf r m) refl refl refl;
+    written = x .written;
+    kept = λ k. record {
+      kept-sequences = record { kept-data = x .kept; kept-sync = k .kept-sequences .kept-sync };
+      kept-waiting = λ h. x .ready .kept-waiting;
+      kept-listened = x .ready .kept-listened;
+      kept-discovery = k .kept-discovery;
+    };
+    lent-waiting = x .ready .lent-waiting;
+  }
+
+-- ── the step ──
+module _ (S : Settings) (now : ℕ) (p : Packet) (r : Receiver) (m : Memory) (out : List ℕ) (k : Kept r m) (long : Option ℕ) (l : too-long p ≡ long)
+    (r₁ : Receiver) (m₁ : Memory) (stopped : Bool) (a₁ : StepAnswer) (o : Opens S now long r m out r₁ m₁ stopped a₁) where
+  pub steps-stopped : stopped ≡ true → Steps S now p r m out r₁ m₁ out a₁
+  unfolding records
+  steps-stopped e = record {
+    released = [];
+    outcome-is = o .ends e p l;
+    written = refl;
+    kept = o .kept k;
+    all-left = λ n f. o .all-left n (sym (ap (first-of (too-short (spaceIn m out))) l) ∙ f);
+    lent-waiting = o .lent-waiting;
+  }
+
+  pub steps-taken : (r₂ : Receiver) (m₂ : Memory) (out₂ : List ℕ) (a₂ : StepAnswer) → stopped ≡ false → Takes S now p r₁ m₁ out r₂ m₂ out₂ a₂ → Steps S now p r m out r₂ m₂ out₂ a₂
+  steps-taken r₂ m₂ out₂ a₂ e t = record {
+    released = t .released;
+    outcome-is = o .goes-on e p l ∙ t .outcome-is;
+    written = t .written;
+    kept = t .kept (o .kept k);
+    all-left = λ n f.
+        let z = o .fits e in
+        none-some (sym (ap (λ (x : Option ℕ). first-of x (too-long p)) (z .0) ∙ l ∙ z .1) ∙ f);
+    lent-waiting = lent-then (o .lent-waiting) (t .lent-waiting);
+  }
