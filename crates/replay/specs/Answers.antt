@@ -1,12 +1,15 @@
 -- The line that an answer prints: "the number (0 where nothing stopped it), then the returned values .., separated by single spaces".
 -- Assumes nothing.
+use mathlib.Core.Path.{_≡_, refl}
+use mathlib.Core.Bool.{Bool, true, false}
 use mathlib.Core.List.{List, [], _∷_, _++_}
 use Prim.Native.Nat.{ℕ}
 use lib.ListN.{take}
 use Rattle.rules.specs.Answer.{Value, number, integer, source, name}
 use Rattle.model.specs.declared.StepAnswer.{StepAnswer}
 use Rattle.model.specs.declared.StepAnswer.the-variants as says
-use Rattle.model.specs.Answer.{stepNumber, stepValues}
+use Rattle.model.specs.declared.ClearAnswer.the-variants as clear
+use Rattle.model.specs.Answer.{stepNumber, stepValues, clearNumber, clearValues}
 use Rattle.replay.specs.Ascii.{ascii}
 use Rattle.replay.specs.Text.{decimalOf, signedOf, cidText, byteText, hexText}
 
@@ -24,6 +27,15 @@ valuesText (v ∷ vs) end = 32 ∷ valueText v ++ valuesText vs end
 -- a whole line
 abbrev pub answerLine : ℕ → List Value → List ℕ
 answerLine n vs = decimalOf n ++ valuesText vs (10 ∷ [])
+
+-- "After 0, `listening` and `clear` print 0 or 1"
+abbrev pub flagLine : Bool → List ℕ
+flagLine true = answerLine 0 (number 1 ∷ [])
+flagLine false = answerLine 0 (number 0 ∷ [])
+
+pub flag-cleared : (b : Bool) → flagLine b ≡ answerLine (clearNumber (clear.Cleared b)) (clearValues (clear.Cleared b))
+flag-cleared true = refl
+flag-cleared false = refl
 
 -- "a step that releases prints `release RECORDS BYTES HEX`"
 abbrev pub releaseLine : ℕ → ℕ → List ℕ → List ℕ

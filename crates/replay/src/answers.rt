@@ -3,10 +3,10 @@ ghost use mathlib.Core.Path.{_≡_};
 ghost use mathlib.Core.List.{[], _∷_};
 ghost use lib.ListN.{take};
 ghost use Rattle.rules.specs.Answer.{number, integer, source, name};
-ghost use Rattle.model.specs.Answer.{pollNumber, pollValues, expiryNumber, expiryValues, listenNumber, listenValues, muteNumber, muteValues, clearNumber, clearValues, bit};
+ghost use Rattle.model.specs.Answer.{pollNumber, pollValues, expiryNumber, expiryValues, listenNumber, listenValues, muteNumber, muteValues, clearNumber, clearValues};
 ghost use Rattle.settings.specs.Settings.{numberOf};
 ghost use Rattle.replay.specs.Text.{Ready, Tells};
-ghost use Rattle.replay.specs.Answers.{answerLine, releaseLine, stepLine};
+ghost use Rattle.replay.specs.Answers.{answerLine, flagLine, releaseLine, stepLine};
 use crate::print::put;
 use crate::print::put_byte_string;
 use crate::print::put_cid;
@@ -55,7 +55,7 @@ pub fn put_value(out: &mut [u8], at: usize, n: u64, value: u64) -> usize
 // 0 with a yes or no.
 pub fn put_flag(out: &mut [u8], at: usize, on: bool) -> usize
     requires { ⌜ Ready at (now out) ⌝ }
-    ensures { λ r. ⌜ Tells (answerLine 0 (number (bit on) ∷ [])) (now (out .entry)) at (now (out .exit)) r ⌝ }
+    ensures { λ r. ⌜ Tells (flagLine on) (now (out .entry)) at (now (out .exit)) r ⌝ }
 {
     if on {
         return put_value(&mut *out, at, 0, 1);

@@ -3,7 +3,7 @@
 use mathlib.Core.Path.{sym, ap}
 use Rattle.model.specs.declared.ClearAnswer.{ClearAnswer}
 use Rattle.model.specs.Answer.{clearNumber, clearValues}
-use Rattle.replay.specs.Answers.{answerLine}
+use Rattle.replay.specs.Answers.{answerLine, flag-cleared}
 use Rattle.replay.specs.TextLaws.{tells-as}
 use borrow.Author.Needs.{needs}
 use Rattle.replay.proofs.answers.put_clear.Statement.{statement}
@@ -28,7 +28,7 @@ returns : tie.Need-returns
 returns c =
     let c1 = c .before .before in
     let c2 = c1 .before .before .before in
-    tells-as (ap (λ (a : ClearAnswer). answerLine (clearNumber a) (clearValues a)) (sym (c2 .answer .given .1))) (c1 .put-flag .ensures)
+    tells-as (ap (λ (a : ClearAnswer). answerLine (clearNumber a) (clearValues a)) (sym (c2 .answer .given .1))) (tells-as (flag-cleared (c2 .answer .given .0 .0)) (c1 .put-flag .ensures))
 
 same-length-2 : tie.Need-same-length-2
 same-length-2 c = search needs

@@ -1,11 +1,7 @@
 -- 1 or 0.
 -- Assumes nothing.
 use mathlib.Core.Path.{sym, ap}
-use mathlib.Core.Bool.{Bool}
-use mathlib.Core.List.{[], _∷_}
-use Rattle.rules.specs.Answer.{number}
-use Rattle.model.specs.Answer.{bit}
-use Rattle.replay.specs.Answers.{answerLine}
+use Rattle.replay.specs.Answers.{flagLine}
 use Rattle.replay.specs.TextLaws.{tells-as}
 use borrow.Author.Needs.{needs}
 use Rattle.replay.proofs.answers.put_flag.Statement.{statement}
@@ -18,7 +14,7 @@ same-length : tie.Need-same-length
 same-length c = search needs
 
 returns : tie.Need-returns
-returns c = tells-as (ap (λ (b : Bool). answerLine 0 (number (bit b) ∷ [])) (sym (c .before .before .before .before .if1 .taken))) (c .before .before .put-value .ensures)
+returns c = tells-as (ap flagLine (sym (c .before .before .before .before .if1 .taken))) (c .before .before .put-value .ensures)
 
 put-value-requires-2 : tie.Need-put-value-requires-2
 put-value-requires-2 c κs = search needs
@@ -27,7 +23,7 @@ same-length-2 : tie.Need-same-length-2
 same-length-2 c = search needs
 
 returns-2 : tie.Need-returns-2
-returns-2 c = tells-as (ap (λ (b : Bool). answerLine 0 (number (bit b) ∷ [])) (sym (c .before .before .before .before .if1 .left))) (c .before .before .put-value2 .ensures)
+returns-2 c = tells-as (ap flagLine (sym (c .before .before .before .before .if1 .left))) (c .before .before .put-value2 .ensures)
 
 pub put-flag-spec : {M : Type 1} → statement M
 put-flag-spec =
