@@ -6,3 +6,5 @@ pub mod TextLaws
 pub mod Lines
 pub mod LineLaws
 pub mod Answers
+pub mod Dump
+pub mod DumpLaws
