@@ -8,3 +8,5 @@ pub mod LineLaws
 pub mod Answers
 pub mod Dump
 pub mod DumpLaws
+pub mod Session
+pub mod SessionLaws

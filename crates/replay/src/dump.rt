@@ -181,7 +181,7 @@ pub fn put_waiting(
 }
 
 // The first n numbers, or all.
-fn front_numbers(list: &[u16], n: usize) -> &[u16]
+pub fn front_numbers(list: &[u16], n: usize) -> &[u16]
     ensures { λ r. ⌜ now r ≡ take n (now (list .entry)) ⌝ }
 {
     if n < list.len() {

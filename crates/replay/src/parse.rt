@@ -15,6 +15,7 @@ use crate::fields::parse_octet;
 use crate::fields::parse_options;
 use crate::fields::parse_small;
 use crate::fields::parse_source;
+use receiver::DiscoveryPacket;
 use rules::Cid;
 use rules::DataSequence;
 use rules::SyncSequence;
@@ -37,9 +38,7 @@ pub struct SyncLine {
 // A discovery packet, its reading and how many bytes of name and universes stand in the lent memory.
 pub struct PageLine {
     pub now: u64,
-    pub cid: Cid,
-    pub page: u8,
-    pub last_page: u8,
+    pub packet: DiscoveryPacket,
     pub name: usize,
     pub count: usize,
 }
@@ -361,11 +360,14 @@ fn parse_discovery(fields: &[u8], bytes: &mut [u8], list: &mut [u16]) -> Command
         return Command::Error;
     };
     let cid = stamp.cid;
-    Command::Discovery(PageLine {
-        now: stamp.now,
+    let packet = DiscoveryPacket {
         cid: cid,
         page: page,
         last_page: last_page,
+    };
+    Command::Discovery(PageLine {
+        now: stamp.now,
+        packet: packet,
         name: name,
         count: count,
     })
