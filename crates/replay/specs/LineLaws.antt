@@ -1,17 +1,17 @@
 -- Laws of lines gathered from chunks.
 -- Assumes nothing.
 use mathlib.Core.Path.{_≡_, refl, sym, ap, subst, _∙_}
-use mathlib.Core.Bool.{_||_}
+use mathlib.Core.Bool.{true, _||_}
 use mathlib.Core.List.{List, [], _∷_, _++_, append-assoc, append-nil}
 use Prim.Native.Nat.{ℕ, _+_, _-_, _≤_, _<_}
 use native.Mathlib.Omega.{arith}
 use native.Mathlib.Numerals.{add-one}
-use lib.Dec.{ltb}
+use lib.Dec.{ltb, eqb}
 use lib.ListN.{length, take, drop, getD, set, length-set, length-append}
 use lib.Seq.{take-all, take-suc-set, length-take-le, take-append-add}
 use Rattle.replay.specs.declared.lines.Line.{Line}
 use Rattle.replay.specs.Fields.{Ends}
-use Rattle.replay.specs.Lines.{Unread, Appended, Pieced, between}
+use Rattle.replay.specs.Lines.{Unread, Appended, Pieced, between, silent}
 use Rattle.replay.specs.TextLaws.{take-more}
 
 -- a loop that copies byte by byte: the first i bytes of the part stand behind the first n of the line
@@ -75,3 +75,11 @@ pieced {line} {r} {chunk} {text} {text′} e h u a o l =
       whole = o ∙ ap (λ (j : ℕ). ltb j (length s)) k;
       cut = l ∙ ap (λ (j : ℕ). line .long || ltb (r .length - line .length) j) (h .ends-counts ∙ ap (λ (j : ℕ). length (take j s)) k);
     }
+
+pub silent-none : (s : List ℕ) → length s ≡ 0 → silent s ≡ true
+silent-none [] h = refl
+silent-none (b ∷ s) h = absurd (omega arith)
+
+pub silent-mark : (s : List ℕ) → (length s ≡ 0 → ⊥) → silent s ≡ eqb (getD s 0 0) 35
+silent-mark [] h = absurd (h refl)
+silent-mark (b ∷ s) h = refl

@@ -22,6 +22,8 @@ use Rattle.receiver.specs.declared.Receiver.{Receiver}
 use Rattle.receiver.specs.View.{Memory, stateOf, spaceIn, announcementOf, pool-length, Kept}
 use Rattle.replay.specs.declared.parse.Command.{Command}
 use Rattle.replay.specs.declared.parse.Command.the-variants as says
+use Rattle.replay.specs.declared.parse.Setting.{Setting}
+use Rattle.replay.specs.declared.parse.Setting.the-variants as sets
 use Rattle.replay.specs.declared.calls.Session.{Session}
 use Rattle.replay.specs.Ascii.{ascii}
 use Rattle.replay.specs.Text.{Ready, Tells}
@@ -72,17 +74,20 @@ dumped S s = outcome S s (dumpText s)
 abbrev pub refused : Settings → State → Outcome
 refused S s = outcome S s (ascii "error\n")
 
+abbrev pub adjusted : Setting → Settings → State → Outcome
+adjusted (sets.Preview on) S s = set-to (setting.withPreview on S) s
+adjusted (sets.AnnounceDiscovery on) S s = set-to (setting.withDiscovery on S) s
+adjusted (sets.AnnounceTermination on) S s = set-to (setting.withTermination on S) s
+adjusted (sets.AnnounceTimeout on) S s = set-to (setting.withTimeout on S) s
+adjusted (sets.Merge choice) S s = set-to (setting.withMerge choice S) s
+adjusted sets.NoLimit S s = set-to (setting.withoutLimit S) s
+adjusted (sets.Limit n) S s = limited-to n S s
+
 -- each command, with the bytes and the numbers that its line put into lent memory
 abbrev pub carried : Memory → List ℕ → List ℕ → List ℕ → Command → Settings → State → Outcome
 carried m output bs us says.Error S s = refused S s
 carried m output bs us says.Fresh S s = begun
-carried m output bs us (says.Preview on) S s = set-to (setting.withPreview on S) s
-carried m output bs us (says.AnnounceDiscovery on) S s = set-to (setting.withDiscovery on S) s
-carried m output bs us (says.AnnounceTermination on) S s = set-to (setting.withTermination on S) s
-carried m output bs us (says.AnnounceTimeout on) S s = set-to (setting.withTimeout on S) s
-carried m output bs us (says.Merge choice) S s = set-to (setting.withMerge choice S) s
-carried m output bs us says.NoLimit S s = set-to (setting.withoutLimit S) s
-carried m output bs us (says.Limit n) S s = limited-to n S s
+carried m output bs us (says.Set x) S s = adjusted x S s
 carried m output bs us (says.Listen n) S s = called (listen-call (take n us)) listenNumber listenValues S s
 carried m output bs us (says.Mute u) S s = called (mute-call u) muteNumber muteValues S s
 carried m output bs us (says.Listening u) S s = asked u S s

@@ -100,3 +100,11 @@ sized-heard heard z = record {
   names-room = z .names-room;
   pages-room = z .pages-room;
 }
+
+pub carries-as : {s s′ : Session} {m m′ : Memory} {out out′ : List ℕ} {o p : Outcome} → o ≡ p → Carries s m out o s′ m′ out′ → Carries s m out p s′ m′ out′
+carries-as e x = record {
+  settings-are = x .settings-are ∙ ap (λ (o : Outcome). o .settings) e;
+  state-is = x .state-is ∙ ap (λ (o : Outcome). o .state) e;
+  told = tells-as (ap (λ (o : Outcome). o .text) e) (x .told);
+  kept-on = x .kept-on;
+}

@@ -6,5 +6,6 @@ mod fields;
 mod lines;
 mod parse;
 mod print;
+mod run;
 
 fn main() {}

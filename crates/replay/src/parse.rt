@@ -43,9 +43,8 @@ pub struct PageLine {
     pub count: usize,
 }
 
-pub enum Command {
-    Error,
-    Fresh,
+// What a setter sets.
+pub enum Setting {
     Preview(bool),
     AnnounceDiscovery(bool),
     AnnounceTermination(bool),
@@ -53,6 +52,12 @@ pub enum Command {
     Merge(MergeChoice),
     NoLimit,
     Limit(u16),
+}
+
+pub enum Command {
+    Error,
+    Fresh,
+    Set(Setting),
     // How many universes stand in the lent list.
     Listen(usize),
     Mute(u16),
@@ -186,22 +191,22 @@ fn parse_word(word: &[u8]) -> Word {
 
 fn parse_merge(field: &[u8]) -> Command {
     if is_same(field, b"priority") {
-        return Command::Merge(MergeChoice::DiscardLowestPriorityThenPrevious);
+        return Command::Set(Setting::Merge(MergeChoice::DiscardLowestPriorityThenPrevious));
     }
     if is_same(field, b"highest") {
-        return Command::Merge(MergeChoice::HtpDmxMerge);
+        return Command::Set(Setting::Merge(MergeChoice::HtpDmxMerge));
     }
     Command::Error
 }
 
 fn parse_limit(field: &[u8]) -> Command {
     if is_same(field, b"none") {
-        return Command::NoLimit;
+        return Command::Set(Setting::NoLimit);
     }
     let Small::Of(n) = parse_small(field) else {
         return Command::Error;
     };
-    Command::Limit(n)
+    Command::Set(Setting::Limit(n))
 }
 
 // What a packet's fields have in front: the reading and the CID.
@@ -378,10 +383,10 @@ fn parse_setting(word: Word, field: &[u8]) -> Command {
         return Command::Error;
     };
     match word {
-        Word::Preview => Command::Preview(on),
-        Word::AnnounceDiscovery => Command::AnnounceDiscovery(on),
-        Word::AnnounceTermination => Command::AnnounceTermination(on),
-        Word::AnnounceTimeout => Command::AnnounceTimeout(on),
+        Word::Preview => Command::Set(Setting::Preview(on)),
+        Word::AnnounceDiscovery => Command::Set(Setting::AnnounceDiscovery(on)),
+        Word::AnnounceTermination => Command::Set(Setting::AnnounceTermination(on)),
+        Word::AnnounceTimeout => Command::Set(Setting::AnnounceTimeout(on)),
         _ => Command::Error,
     }
 }
