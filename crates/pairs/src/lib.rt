@@ -4,6 +4,9 @@ mod rows;
 mod search;
 mod sweep;
 
+// What a lent row stands for.
+pub use crate::rows::cid_of;
+pub use crate::rows::pair_of;
 ghost use mathlib.Core.Path.{_≡_};
 ghost use mathlib.Core.Bool.{true, false, not, _&&_};
 ghost use Prim.Native.Nat.{_≤_, _<_};
@@ -15,7 +18,6 @@ ghost use Rattle.pairs.specs.Table.{key, itself, has, reached, sweep, ad
 ghost use Rattle.pairs.specs.View.{pairsOf, sourcesOf, tableOf, foundAt, answered, removal, accepted, renewed, Kept, Emptied, Follows, Unmoved, PairsKept, Stored, Admitted, NewPair, KnownPair, NewSource, arriving};
 use crate::rows::insert_pair;
 use crate::rows::insert_source;
-use crate::rows::pair_of;
 use crate::rows::pair_row;
 use crate::rows::remove_pair;
 use crate::rows::remove_source;

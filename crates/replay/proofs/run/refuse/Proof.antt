@@ -1,0 +1,22 @@
+-- The receiver is as it was.
+-- Assumes nothing.
+use mathlib.Core.Path.{refl}
+use Rattle.replay.specs.SessionLaws.{carries-same}
+use borrow.Author.Needs.{needs}
+use Rattle.replay.proofs.run.refuse.Statement.{statement}
+use Rattle.replay.proofs.run.refuse.Tie as tie
+
+slice-aggregate-put-text : tie.Need-slice-aggregate-put-text
+slice-aggregate-put-text c = search needs
+
+put-text-requires : tie.Need-put-text-requires
+put-text-requires c κs = search needs
+
+same-length : tie.Need-same-length
+same-length c = search needs
+
+returns : tie.Need-returns
+returns c = λ m. carries-same refl refl (c .before .before .put-text .ensures)
+
+pub refuse-spec : {M : Type 1} → statement M
+refuse-spec = tie.close (tie.spec slice-aggregate-put-text put-text-requires same-length returns)

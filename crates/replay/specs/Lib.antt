@@ -1,0 +1,12 @@
+pub mod Ascii
+pub mod Fields
+pub mod FieldLaws
+pub mod Text
+pub mod TextLaws
+pub mod Lines
+pub mod LineLaws
+pub mod Answers
+pub mod Dump
+pub mod DumpLaws
+pub mod Session
+pub mod SessionLaws

@@ -1,0 +1,126 @@
+-- What a command does to settings and state and what it prints, by the model's definitions; and when the program's memory follows it.
+-- Assumes nothing.
+use mathlib.Core.Path.{_≡_}
+use mathlib.Core.Bool.{Bool}
+use mathlib.Core.List.{List, [], _∷_, _++_}
+use Prim.Native.Nat.{ℕ, _≤_}
+use lib.ListN.{length, take}
+use Rattle.rules.specs.Answer.{Value}
+use Rattle.settings.specs.declared.Settings.{Settings}
+use Rattle.settings.specs.Settings as setting
+use Rattle.waiting.specs.Records.{records, over}
+use Rattle.waiting.specs.Entries.{store-length}
+use Rattle.space.specs.Space.{bytes}
+use Rattle.steps.specs.View.{packetOf, syncOf}
+use Rattle.model.specs.Packet.{Packet, data-packet, sync-packet, discovery-packet}
+use Rattle.model.specs.State.{State, listens}
+use Rattle.model.specs.State as model
+use Rattle.model.specs.Step.{Space, step}
+use Rattle.model.specs.Calls.{poll-call, expiry-call, listen-call, mute-call, clear-call, clear-all-call, reset-call}
+use Rattle.model.specs.Answer.{pollNumber, pollValues, expiryNumber, expiryValues, listenNumber, listenValues, muteNumber, muteValues, clearNumber, clearValues}
+use Rattle.receiver.specs.declared.Receiver.{Receiver}
+use Rattle.receiver.specs.View.{Memory, stateOf, spaceIn, announcementOf, pool-length, Kept}
+use Rattle.replay.specs.declared.parse.Command.{Command}
+use Rattle.replay.specs.declared.parse.Command.the-variants as says
+use Rattle.replay.specs.declared.parse.Setting.{Setting}
+use Rattle.replay.specs.declared.parse.Setting.the-variants as sets
+use Rattle.replay.specs.declared.calls.Session.{Session}
+use Rattle.replay.specs.declared.lines.Input.{Input}
+use Rattle.replay.specs.Ascii.{ascii}
+use Rattle.replay.specs.Lines.{Unread}
+use Rattle.replay.specs.Text.{Ready, Tells}
+use Rattle.replay.specs.Answers.{answerLine, flagLine, stepLine}
+use Rattle.replay.specs.Dump.{dumpText}
+
+-- ── what a command does ──
+pub record Outcome : Type 0 where
+  pub settings : Settings
+  pub state : State
+  pub text : List ℕ
+
+abbrev pub outcome : Settings → State → List ℕ → Outcome
+outcome S s text = record { settings = S; state = s; text = text }
+
+-- "`fresh`: a fresh receiver with fresh settings"
+abbrev pub begun : Outcome
+begun = outcome setting.fresh model.fresh (answerLine 0 [])
+
+-- a setter
+abbrev pub set-to : Settings → State → Outcome
+set-to S s = outcome S s (answerLine 0 [])
+
+abbrev pub limited-to : ℕ → Settings → State → Outcome
+limited-to n S s = outcome (setting.limited n S .settings) s (answerLine (setting.numberOf (setting.limited n S .answer)) [])
+
+-- a call that answers
+abbrev pub called : {A : Type 0} → (State → State × A) → (A → ℕ) → (A → List Value) → Settings → State → Outcome
+called call number values S s = outcome S (call s .0) (answerLine (number (call s .1)) (values (call s .1)))
+
+-- a call that nothing stops
+abbrev pub changed : (State → State) → Settings → State → Outcome
+changed call S s = outcome S (call s) (answerLine 0 [])
+
+abbrev pub asked : ℕ → Settings → State → Outcome
+asked u S s = outcome S s (flagLine (listens u (s .listened)))
+
+-- a step, with the packet's own name; the released bytes lie at the front of the output that was lent
+abbrev pub stepped : Space → List ℕ → List ℕ → ℕ → Packet → Settings → State → Outcome
+stepped space output own now p S s =
+    let o = step space S now p s in
+    outcome S (o .state) (stepLine own (over (records (o .released)) output) (o .answer))
+
+abbrev pub dumped : Settings → State → Outcome
+dumped S s = outcome S s (dumpText s)
+
+-- "A line that is none of these prints `error` and changes nothing."
+abbrev pub refused : Settings → State → Outcome
+refused S s = outcome S s (ascii "error\n")
+
+abbrev pub adjusted : Setting → Settings → State → Outcome
+adjusted (sets.Preview on) S s = set-to (setting.withPreview on S) s
+adjusted (sets.AnnounceDiscovery on) S s = set-to (setting.withDiscovery on S) s
+adjusted (sets.AnnounceTermination on) S s = set-to (setting.withTermination on S) s
+adjusted (sets.AnnounceTimeout on) S s = set-to (setting.withTimeout on S) s
+adjusted (sets.Merge choice) S s = set-to (setting.withMerge choice S) s
+adjusted sets.NoLimit S s = set-to (setting.withoutLimit S) s
+adjusted (sets.Limit n) S s = limited-to n S s
+
+-- each command, with the bytes and the numbers that its line put into lent memory
+abbrev pub carried : Memory → List ℕ → List ℕ → List ℕ → Command → Settings → State → Outcome
+carried m output bs us says.Error S s = refused S s
+carried m output bs us says.Fresh S s = begun
+carried m output bs us (says.Set x) S s = adjusted x S s
+carried m output bs us (says.Listen n) S s = called (listen-call (take n us)) listenNumber listenValues S s
+carried m output bs us (says.Mute u) S s = called (mute-call u) muteNumber muteValues S s
+carried m output bs us (says.Listening u) S s = asked u S s
+carried m output bs us (says.Poll now) S s = called (poll-call (length (m .store)) S now) pollNumber pollValues S s
+carried m output bs us (says.Sweep now) S s = called (expiry-call (bytes (m .universes)) now) expiryNumber expiryValues S s
+carried m output bs us (says.Clear u) S s = called (clear-call (length (m .store)) u) clearNumber clearValues S s
+carried m output bs us says.ClearAll S s = changed clear-all-call S s
+carried m output bs us says.Reset S s = changed reset-call S s
+carried m output bs us (says.Data l) S s =
+    stepped (spaceIn m output) output [] (l .now) (data-packet (packetOf (l .packet) (take (l .count) bs))) S s
+carried m output bs us (says.Sync l) S s = stepped (spaceIn m output) output [] (l .now) (sync-packet (syncOf (l .packet))) S s
+carried m output bs us (says.Discovery l) S s =
+    stepped (spaceIn m output) output (take (l .name) bs) (l .now) (discovery-packet (announcementOf (l .packet) (take (l .name) bs) (take (l .count) us))) S s
+carried m output bs us says.Dump S s = dumped S s
+
+-- ── the program's memory ──
+-- a receiver whose calls may be made, with stores of full length
+pub record Fit (r : Receiver) (m : Memory) : Type 0 where
+  pub kept : Kept r m
+  pub store-room : store-length ≤ length (m .store)
+  pub pool-room : pool-length ≤ length (m .universes)
+
+-- settings, state and text are the outcome's, and the next call may be made
+pub record Carries (s : Session) (m : Memory) (out : List ℕ) (o : Outcome) (s′ : Session) (m′ : Memory) (out′ : List ℕ) : Type 0 where
+  pub settings-are : s′ .settings ≡ o .settings
+  pub state-is : stateOf (s′ .receiver) m′ ≡ o .state
+  pub told : Tells (o .text) out (s .at) out′ (s′ .at)
+  pub kept-on : Fit (s .receiver) m → Kept (s′ .receiver) m′
+
+-- what one line leaves for the next
+pub record Runs (s : Session) (i : Input) (m : Memory) (chunk out : List ℕ) : Type 0 where
+  pub fit : Fit (s .receiver) m
+  pub ready : Ready (s .at) out
+  pub unread : Unread (i .at) (i .end) chunk

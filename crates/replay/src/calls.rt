@@ -1,0 +1,412 @@
+// A command carried out: the receiver's call, and the line of its answer.
+ghost use mathlib.Core.Path.{_≡_};
+ghost use mathlib.Core.List.{[]};
+ghost use Prim.Native.Nat.{_≤_};
+ghost use lib.ListN.{length, take};
+ghost use Rattle.waiting.specs.Entries.{store-length};
+ghost use Rattle.waiting.specs.Entries as held;
+ghost use Rattle.listening.specs.View as hearing;
+ghost use Rattle.sequences.specs.View as numbered;
+ghost use Rattle.discovery.specs.View as found;
+ghost use Rattle.space.specs.Space.{bytes};
+ghost use Rattle.steps.specs.View.{packetOf, syncOf};
+ghost use Rattle.model.specs.Packet.{data-packet, sync-packet, discovery-packet};
+ghost use Rattle.model.specs.Calls.{poll-call, expiry-call, listen-call, mute-call, clear-call, clear-all-call, reset-call};
+ghost use Rattle.model.specs.Answer.{pollNumber, pollValues, expiryNumber, expiryValues, listenNumber, listenValues, muteNumber, muteValues, clearNumber, clearValues};
+ghost use Rattle.receiver.specs.View.{Memory, memory, with-numbers, with-held, with-heard, with-found, stateOf, spaceIn, announcementOf, pool-length, Kept};
+ghost use Rattle.replay.specs.Text.{Ready};
+ghost use Rattle.replay.specs.Session.{begun, set-to, limited-to, called, changed, asked, stepped, Carries};
+use crate::answers::front;
+use crate::answers::put_clear;
+use crate::answers::put_expiry;
+use crate::answers::put_flag;
+use crate::answers::put_limit;
+use crate::answers::put_listen;
+use crate::answers::put_mute;
+use crate::answers::put_number;
+use crate::answers::put_poll;
+use crate::answers::put_step;
+use crate::dump::front_numbers;
+use crate::parse::DataLine;
+use crate::parse::PageLine;
+use crate::parse::SyncLine;
+use receiver::Receiver;
+use settings::Settings;
+
+// What one command leaves for the next: the receiver, its settings, and how much is still to be written out.
+pub struct Session {
+    pub receiver: Receiver,
+    pub settings: Settings,
+    pub at: usize,
+}
+
+pub fn begin(session: Session, heard: &mut [u16; 1024], out: &mut [u8]) -> Session
+    requires { ⌜ (length (now heard) ≡ 1024) × Ready (session .at) (now out) ⌝ }
+    ensures { λ r. ⌜ ((m : Memory) → Carries session m (now (out .entry)) begun r (with-heard (now (heard .exit)) m) (now (out .exit))) ⌝ }
+{
+    let receiver = Receiver::new(heard);
+    let settings = Settings::new();
+    let at = put_number(out, session.at, 0);
+    Session {
+        receiver: receiver,
+        settings: settings,
+        at: at,
+    }
+}
+
+// The settings are set; nothing can stop it.
+pub fn set(session: Session, settings: Settings, out: &mut [u8]) -> Session
+    requires { ⌜ Ready (session .at) (now out) ⌝ }
+    ensures { λ r. ⌜ ((m : Memory) → Carries session m (now (out .entry)) (set-to settings (stateOf (session .receiver) m)) r m (now (out .exit))) ⌝ }
+{
+    let receiver = session.receiver;
+    let at = put_number(out, session.at, 0);
+    Session {
+        receiver: receiver,
+        settings: settings,
+        at: at,
+    }
+}
+
+pub fn set_limit(session: Session, limit: u16, out: &mut [u8]) -> Session
+    requires { ⌜ Ready (session .at) (now out) ⌝ }
+    ensures { λ r. ⌜ ((m : Memory) → Carries session m (now (out .entry)) (limited-to limit (session .settings) (stateOf (session .receiver) m)) r m (now (out .exit))) ⌝ }
+{
+    let receiver = session.receiver;
+    let old = session.settings;
+    let l = old.set_source_limit(limit);
+    let settings = l.settings;
+    let answer = l.answer;
+    let at = put_limit(out, session.at, answer);
+    Session {
+        receiver: receiver,
+        settings: settings,
+        at: at,
+    }
+}
+
+pub fn listen(
+    session: Session,
+    heard: &mut [u16; 1024],
+    list: &[u16],
+    n: usize,
+    out: &mut [u8],
+) -> Session
+    requires { ⌜ hearing.Kept (session .receiver .listened) (now heard) × Ready (session .at) (now out) ⌝ }
+    ensures { λ r. ⌜ ((m : Memory) → Carries session (with-heard (now (heard .entry)) m) (now (out .entry)) (called (listen-call (take n (now (list .entry)))) listenNumber listenValues (session .settings) (stateOf (session .receiver) (with-heard (now (heard .entry)) m))) r (with-heard (now (heard .exit)) m) (now (out .exit))) ⌝ }
+{
+    let r = session.receiver;
+    let settings = session.settings;
+    let a = r.listen_universes(heard, front_numbers(list, n));
+    let receiver = a.receiver;
+    let answer = a.answer;
+    let at = put_listen(out, session.at, answer);
+    Session {
+        receiver: receiver,
+        settings: settings,
+        at: at,
+    }
+}
+
+pub fn mute(session: Session, heard: &mut [u16; 1024], universe: u16, out: &mut [u8]) -> Session
+    requires { ⌜ hearing.Kept (session .receiver .listened) (now heard) × Ready (session .at) (now out) ⌝ }
+    ensures { λ r. ⌜ ((m : Memory) → Carries session (with-heard (now (heard .entry)) m) (now (out .entry)) (called (mute-call universe) muteNumber muteValues (session .settings) (stateOf (session .receiver) (with-heard (now (heard .entry)) m))) r (with-heard (now (heard .exit)) m) (now (out .exit))) ⌝ }
+{
+    let r = session.receiver;
+    let settings = session.settings;
+    let a = r.mute_universe(heard, universe);
+    let receiver = a.receiver;
+    let answer = a.answer;
+    let at = put_mute(out, session.at, answer);
+    Session {
+        receiver: receiver,
+        settings: settings,
+        at: at,
+    }
+}
+
+pub fn ask(session: Session, heard: &[u16; 1024], universe: u16, out: &mut [u8]) -> Session
+    requires { ⌜ hearing.Kept (session .receiver .listened) (now heard) × Ready (session .at) (now out) ⌝ }
+    ensures { λ r. ⌜ ((m : Memory) → Carries session (with-heard (now (heard .entry)) m) (now (out .entry)) (asked universe (session .settings) (stateOf (session .receiver) (with-heard (now (heard .entry)) m))) r (with-heard (now (heard .entry)) m) (now (out .exit))) ⌝ }
+{
+    let receiver = session.receiver;
+    let settings = session.settings;
+    let held = receiver.is_listening(heard, universe);
+    let at = put_flag(out, session.at, held);
+    Session {
+        receiver: receiver,
+        settings: settings,
+        at: at,
+    }
+}
+
+pub fn poll(
+    session: Session,
+    data_pairs: &mut [[u64; 4]; 1024],
+    data_sources: &mut [[u64; 2]; 1024],
+    sync_pairs: &mut [[u64; 4]; 1024],
+    sync_sources: &mut [[u64; 2]; 1024],
+    rows: &mut [[u64; 9]; 64],
+    store: &mut [u8],
+    reading: u64,
+    out: &mut [u8],
+) -> Session
+    requires { ⌜ numbered.Kept (session .receiver .sequences) (numbered.lent (now «data_pairs») (now «data_sources») (now «sync_pairs») (now «sync_sources»)) × (store-length ≤ length (now store) → held.Kept (session .receiver .waiting .count) (now rows) (now store)) × Ready (session .at) (now out) ⌝ }
+    ensures { λ r. ⌜ ((m : Memory) → Carries session (with-numbers (numbered.lent (now («data_pairs» .entry)) (now («data_sources» .entry)) (now («sync_pairs» .entry)) (now («sync_sources» .entry))) (with-held (now (rows .entry)) (now (store .entry)) m)) (now (out .entry)) (called (poll-call (length (now (store .entry))) (session .settings) reading) pollNumber pollValues (session .settings) (stateOf (session .receiver) (with-numbers (numbered.lent (now («data_pairs» .entry)) (now («data_sources» .entry)) (now («sync_pairs» .entry)) (now («sync_sources» .entry))) (with-held (now (rows .entry)) (now (store .entry)) m)))) r (with-numbers (numbered.lent (now («data_pairs» .exit)) (now («data_sources» .exit)) (now («sync_pairs» .exit)) (now («sync_sources» .exit))) (with-held (now (rows .exit)) (now (store .exit)) m)) (now (out .exit))) ⌝ }
+{
+    let r = session.receiver;
+    let settings = session.settings;
+    let a = r.poll(
+        data_pairs,
+        data_sources,
+        sync_pairs,
+        sync_sources,
+        rows,
+        store,
+        settings,
+        reading,
+    );
+    let receiver = a.receiver;
+    let answer = a.answer;
+    let at = put_poll(out, session.at, answer);
+    Session {
+        receiver: receiver,
+        settings: settings,
+        at: at,
+    }
+}
+
+pub fn sweep(
+    session: Session,
+    sources: &mut [[u64; 6]; 64],
+    names: &mut [[u8; 63]; 64],
+    pages: &mut [[u64; 5]; 64],
+    universes: &mut [u16],
+    reading: u64,
+    out: &mut [u8],
+) -> Session
+    requires { ⌜ (pool-length ≤ length (now universes) → found.Kept (session .receiver .discovery) (now sources) (now names) (now pages) (now universes)) × Ready (session .at) (now out) ⌝ }
+    ensures { λ r. ⌜ ((m : Memory) → Carries session (with-found (now (sources .entry)) (now (names .entry)) (now (pages .entry)) (now (universes .entry)) m) (now (out .entry)) (called (expiry-call (bytes (now (universes .entry))) reading) expiryNumber expiryValues (session .settings) (stateOf (session .receiver) (with-found (now (sources .entry)) (now (names .entry)) (now (pages .entry)) (now (universes .entry)) m))) r (with-found (now (sources .exit)) (now (names .exit)) (now (pages .exit)) (now (universes .exit)) m) (now (out .exit))) ⌝ }
+{
+    let r = session.receiver;
+    let settings = session.settings;
+    let a = r.remove_expired_sources(sources, names, pages, universes, reading);
+    let receiver = a.receiver;
+    let answer = a.answer;
+    let at = put_expiry(out, session.at, answer);
+    Session {
+        receiver: receiver,
+        settings: settings,
+        at: at,
+    }
+}
+
+pub fn clear(
+    session: Session,
+    rows: &mut [[u64; 9]; 64],
+    store: &mut [u8],
+    universe: u16,
+    out: &mut [u8],
+) -> Session
+    requires { ⌜ (store-length ≤ length (now store) → held.Kept (session .receiver .waiting .count) (now rows) (now store)) × Ready (session .at) (now out) ⌝ }
+    ensures { λ r. ⌜ ((m : Memory) → Carries session (with-held (now (rows .entry)) (now (store .entry)) m) (now (out .entry)) (called (clear-call (length (now (store .entry))) universe) clearNumber clearValues (session .settings) (stateOf (session .receiver) (with-held (now (rows .entry)) (now (store .entry)) m))) r (with-held (now (rows .exit)) (now (store .exit)) m) (now (out .exit))) ⌝ }
+{
+    let r = session.receiver;
+    let settings = session.settings;
+    let a = r.clear_waiting_data(rows, store, universe);
+    let receiver = a.receiver;
+    let answer = a.answer;
+    let at = put_clear(out, session.at, answer);
+    Session {
+        receiver: receiver,
+        settings: settings,
+        at: at,
+    }
+}
+
+pub fn clear_all(session: Session, out: &mut [u8]) -> Session
+    requires { ⌜ Ready (session .at) (now out) ⌝ }
+    ensures { λ r. ⌜ ((m : Memory) → Carries session m (now (out .entry)) (changed clear-all-call (session .settings) (stateOf (session .receiver) m)) r m (now (out .exit))) ⌝ }
+{
+    let r = session.receiver;
+    let settings = session.settings;
+    let receiver = r.clear_all_waiting_data();
+    let at = put_number(out, session.at, 0);
+    Session {
+        receiver: receiver,
+        settings: settings,
+        at: at,
+    }
+}
+
+pub fn reset(session: Session, out: &mut [u8]) -> Session
+    requires { ⌜ Ready (session .at) (now out) ⌝ }
+    ensures { λ r. ⌜ ((m : Memory) → Carries session m (now (out .entry)) (changed reset-call (session .settings) (stateOf (session .receiver) m)) r m (now (out .exit))) ⌝ }
+{
+    let r = session.receiver;
+    let settings = session.settings;
+    let receiver = r.reset_sources();
+    let at = put_number(out, session.at, 0);
+    Session {
+        receiver: receiver,
+        settings: settings,
+        at: at,
+    }
+}
+
+pub fn step_data(
+    session: Session,
+    data_pairs: &mut [[u64; 4]; 1024],
+    data_sources: &mut [[u64; 2]; 1024],
+    sync_pairs: &mut [[u64; 4]; 1024],
+    sync_sources: &mut [[u64; 2]; 1024],
+    rows: &mut [[u64; 9]; 64],
+    store: &mut [u8],
+    heard: &mut [u16; 1024],
+    sources: &[[u64; 6]; 64],
+    names: &[[u8; 63]; 64],
+    pages: &mut [[u64; 5]; 64],
+    universes: &mut [u16],
+    line: DataLine,
+    bytes: &[u8],
+    released: &mut [u8],
+    out: &mut [u8],
+) -> Session
+    requires { ⌜ Kept (session .receiver) (memory (now «data_pairs») (now «data_sources») (now «sync_pairs») (now «sync_sources») (now rows) (now store) (now heard) (now sources) (now names) (now pages) (now universes)) × Ready (session .at) (now out) ⌝ }
+    ensures { λ r. ⌜ Carries session (memory (now («data_pairs» .entry)) (now («data_sources» .entry)) (now («sync_pairs» .entry)) (now («sync_sources» .entry)) (now (rows .entry)) (now (store .entry)) (now (heard .entry)) (now (sources .entry)) (now (names .entry)) (now (pages .entry)) (now (universes .entry))) (now (out .entry)) (stepped (spaceIn (memory (now («data_pairs» .entry)) (now («data_sources» .entry)) (now («sync_pairs» .entry)) (now («sync_sources» .entry)) (now (rows .entry)) (now (store .entry)) (now (heard .entry)) (now (sources .entry)) (now (names .entry)) (now (pages .entry)) (now (universes .entry))) (now (released .entry))) (now (released .entry)) [] (line .«now») (data-packet (packetOf (line .packet) (take (line .count) (now («bytes» .entry))))) (session .settings) (stateOf (session .receiver) (memory (now («data_pairs» .entry)) (now («data_sources» .entry)) (now («sync_pairs» .entry)) (now («sync_sources» .entry)) (now (rows .entry)) (now (store .entry)) (now (heard .entry)) (now (sources .entry)) (now (names .entry)) (now (pages .entry)) (now (universes .entry))))) r (memory (now («data_pairs» .exit)) (now («data_sources» .exit)) (now («sync_pairs» .exit)) (now («sync_sources» .exit)) (now (rows .exit)) (now (store .exit)) (now (heard .exit)) (now (sources .entry)) (now (names .entry)) (now (pages .exit)) (now (universes .exit))) (now (out .exit)) ⌝ }
+{
+    let r = session.receiver;
+    let settings = session.settings;
+    let packet = line.packet;
+    let a = r.handle_data_packet(
+        data_pairs,
+        data_sources,
+        sync_pairs,
+        sync_sources,
+        rows,
+        store,
+        heard,
+        sources,
+        names,
+        pages,
+        universes,
+        settings,
+        line.now,
+        packet,
+        front(bytes, line.count),
+        &mut *released,
+    );
+    let receiver = a.receiver;
+    let answer = a.answer;
+    let at = put_step(out, session.at, answer, b"", &*released);
+    Session {
+        receiver: receiver,
+        settings: settings,
+        at: at,
+    }
+}
+
+pub fn step_sync(
+    session: Session,
+    data_pairs: &mut [[u64; 4]; 1024],
+    data_sources: &mut [[u64; 2]; 1024],
+    sync_pairs: &mut [[u64; 4]; 1024],
+    sync_sources: &mut [[u64; 2]; 1024],
+    rows: &mut [[u64; 9]; 64],
+    store: &mut [u8],
+    heard: &[u16; 1024],
+    sources: &[[u64; 6]; 64],
+    names: &[[u8; 63]; 64],
+    pages: &[[u64; 5]; 64],
+    universes: &[u16],
+    line: SyncLine,
+    released: &mut [u8],
+    out: &mut [u8],
+) -> Session
+    requires { ⌜ Kept (session .receiver) (memory (now «data_pairs») (now «data_sources») (now «sync_pairs») (now «sync_sources») (now rows) (now store) (now heard) (now sources) (now names) (now pages) (now universes)) × Ready (session .at) (now out) ⌝ }
+    ensures { λ r. ⌜ Carries session (memory (now («data_pairs» .entry)) (now («data_sources» .entry)) (now («sync_pairs» .entry)) (now («sync_sources» .entry)) (now (rows .entry)) (now (store .entry)) (now (heard .entry)) (now (sources .entry)) (now (names .entry)) (now (pages .entry)) (now (universes .entry))) (now (out .entry)) (stepped (spaceIn (memory (now («data_pairs» .entry)) (now («data_sources» .entry)) (now («sync_pairs» .entry)) (now («sync_sources» .entry)) (now (rows .entry)) (now (store .entry)) (now (heard .entry)) (now (sources .entry)) (now (names .entry)) (now (pages .entry)) (now (universes .entry))) (now (released .entry))) (now (released .entry)) [] (line .«now») (sync-packet (syncOf (line .packet))) (session .settings) (stateOf (session .receiver) (memory (now («data_pairs» .entry)) (now («data_sources» .entry)) (now («sync_pairs» .entry)) (now («sync_sources» .entry)) (now (rows .entry)) (now (store .entry)) (now (heard .entry)) (now (sources .entry)) (now (names .entry)) (now (pages .entry)) (now (universes .entry))))) r (memory (now («data_pairs» .exit)) (now («data_sources» .exit)) (now («sync_pairs» .exit)) (now («sync_sources» .exit)) (now (rows .exit)) (now (store .exit)) (now (heard .entry)) (now (sources .entry)) (now (names .entry)) (now (pages .entry)) (now (universes .entry))) (now (out .exit)) ⌝ }
+{
+    let r = session.receiver;
+    let settings = session.settings;
+    let packet = line.packet;
+    let a = r.handle_sync_packet(
+        data_pairs,
+        data_sources,
+        sync_pairs,
+        sync_sources,
+        rows,
+        store,
+        heard,
+        sources,
+        names,
+        pages,
+        universes,
+        settings,
+        line.now,
+        packet,
+        &mut *released,
+    );
+    let receiver = a.receiver;
+    let answer = a.answer;
+    let at = put_step(out, session.at, answer, b"", &*released);
+    Session {
+        receiver: receiver,
+        settings: settings,
+        at: at,
+    }
+}
+
+pub fn step_discovery(
+    session: Session,
+    data_pairs: &mut [[u64; 4]; 1024],
+    data_sources: &mut [[u64; 2]; 1024],
+    sync_pairs: &mut [[u64; 4]; 1024],
+    sync_sources: &mut [[u64; 2]; 1024],
+    rows: &mut [[u64; 9]; 64],
+    store: &mut [u8],
+    heard: &[u16; 1024],
+    sources: &mut [[u64; 6]; 64],
+    names: &mut [[u8; 63]; 64],
+    pages: &mut [[u64; 5]; 64],
+    universes: &mut [u16],
+    line: PageLine,
+    bytes: &[u8],
+    list: &[u16],
+    released: &[u8],
+    out: &mut [u8],
+) -> Session
+    requires { ⌜ Kept (session .receiver) (memory (now «data_pairs») (now «data_sources») (now «sync_pairs») (now «sync_sources») (now rows) (now store) (now heard) (now sources) (now names) (now pages) (now universes)) × Ready (session .at) (now out) ⌝ }
+    ensures { λ r. ⌜ Carries session (memory (now («data_pairs» .entry)) (now («data_sources» .entry)) (now («sync_pairs» .entry)) (now («sync_sources» .entry)) (now (rows .entry)) (now (store .entry)) (now (heard .entry)) (now (sources .entry)) (now (names .entry)) (now (pages .entry)) (now (universes .entry))) (now (out .entry)) (stepped (spaceIn (memory (now («data_pairs» .entry)) (now («data_sources» .entry)) (now («sync_pairs» .entry)) (now («sync_sources» .entry)) (now (rows .entry)) (now (store .entry)) (now (heard .entry)) (now (sources .entry)) (now (names .entry)) (now (pages .entry)) (now (universes .entry))) (now (released .entry))) (now (released .entry)) (take (line .name) (now («bytes» .entry))) (line .«now») (discovery-packet (announcementOf (line .packet) (take (line .name) (now («bytes» .entry))) (take (line .count) (now (list .entry))))) (session .settings) (stateOf (session .receiver) (memory (now («data_pairs» .entry)) (now («data_sources» .entry)) (now («sync_pairs» .entry)) (now («sync_sources» .entry)) (now (rows .entry)) (now (store .entry)) (now (heard .entry)) (now (sources .entry)) (now (names .entry)) (now (pages .entry)) (now (universes .entry))))) r (memory (now («data_pairs» .exit)) (now («data_sources» .exit)) (now («sync_pairs» .exit)) (now («sync_sources» .exit)) (now (rows .exit)) (now (store .exit)) (now (heard .entry)) (now (sources .exit)) (now (names .exit)) (now (pages .exit)) (now (universes .exit))) (now (out .exit)) ⌝ }
+{
+    let r = session.receiver;
+    let settings = session.settings;
+    let packet = line.packet;
+    let name = front(bytes, line.name);
+    let a = r.handle_universe_discovery_packet(
+        data_pairs,
+        data_sources,
+        sync_pairs,
+        sync_sources,
+        rows,
+        store,
+        heard,
+        sources,
+        names,
+        pages,
+        universes,
+        settings,
+        line.now,
+        packet,
+        name,
+        front_numbers(list, line.count),
+        released,
+    );
+    let receiver = a.receiver;
+    let answer = a.answer;
+    let at = put_step(out, session.at, answer, name, released);
+    Session {
+        receiver: receiver,
+        settings: settings,
+        at: at,
+    }
+}

@@ -1,0 +1,440 @@
+// The whole state, line by line.
+ghost use mathlib.Core.Path.{_≡_};
+ghost use Prim.Native.Nat.{_≤_, _<_};
+ghost use lib.ListN.{length, take, getD};
+ghost use Rattle.pairs.specs.View.{pairsOf, sourcesOf, tableOf};
+ghost use Rattle.merge.specs.Views.{dmx};
+ghost use Rattle.waiting.specs.Entries.{waitingOf};
+ghost use Rattle.waiting.specs.Entries as held;
+ghost use Rattle.listening.specs.View.{listenedOf};
+ghost use Rattle.discovery.specs.Rows.{Packing};
+ghost use Rattle.discovery.specs.View as found;
+ghost use Rattle.readouts.specs.Reads.{pages-of, sources-of};
+ghost use Rattle.receiver.specs.View.{memory, stateOf, Kept, pool-length};
+ghost use Rattle.replay.specs.Text.{Ready, Tells};
+ghost use Rattle.replay.specs.Dump.{lines, spaced, pairLine, cidsText, sourcesLine, tableText, ownerText, waitingLine, listenedLine, pageLine, headLine, sourceText, discoveredText, dumpText};
+ghost use Rattle.replay.specs.DumpLaws.{page, first-page, first-source};
+use crate::answers::front;
+use crate::print::put;
+use crate::print::put_bit;
+use crate::print::put_byte_string;
+use crate::print::put_cid;
+use crate::print::put_decimal;
+use crate::print::put_list;
+use crate::print::put_text;
+use discovery::Discovery;
+use listening::Listened;
+use merge::DmxData;
+use merge::SourceCid;
+use pairs::Pair;
+use pairs::PairTable;
+use pairs::cid_of;
+use pairs::pair_of;
+use readouts::SourceHead;
+use readouts::listed_count;
+use readouts::page_head;
+use readouts::page_total;
+use readouts::page_universes;
+use readouts::partial_count;
+use readouts::place_of_page;
+use readouts::source_head;
+use readouts::source_place;
+use receiver::Receiver;
+use rules::Cid;
+use waiting::Waiting;
+
+// A space and a number.
+fn put_spaced(out: &mut [u8], at: usize, n: u64) -> usize
+    requires { ⌜ Ready at (now out) ⌝ }
+    ensures { λ r. ⌜ Tells (spaced n) (now (out .entry)) at (now (out .exit)) r ⌝ }
+{
+    let a = put(&mut *out, at, 32);
+    put_decimal(&mut *out, a, n)
+}
+
+fn put_pair(out: &mut [u8], at: usize, mark: u8, pair: Pair) -> usize
+    requires { ⌜ Ready at (now out) ⌝ }
+    ensures { λ r. ⌜ Tells (pairLine mark pair) (now (out .entry)) at (now (out .exit)) r ⌝ }
+{
+    let a = put(&mut *out, at, mark);
+    let b = put(&mut *out, a, 32);
+    let d = put_cid(&mut *out, b, pair.cid);
+    let e = put_spaced(&mut *out, d, pair.universe as u64);
+    let f = put_spaced(&mut *out, e, pair.sequence as u64);
+    let g = put_spaced(&mut *out, f, pair.reading);
+    put(&mut *out, g, 10)
+}
+
+fn put_pairs(out: &mut [u8], at: usize, mark: u8, pairs: &[[u64; 4]; 1024], n: usize) -> usize
+    requires { ⌜ Ready at (now out) × (n ≤ 1024) × (length (now pairs) ≡ 1024) ⌝ }
+    ensures { λ r. ⌜ Tells (lines (pairLine mark) (pairsOf n (now (pairs .entry)))) (now (out .entry)) at (now (out .exit)) r ⌝ }
+{
+    let mut a = at;
+    let mut i: usize = 0;
+    while i < n {
+        let row = pairs[i];
+        let pair = pair_of(row);
+        a = put_pair(&mut *out, a, mark, pair);
+        i += 1;
+    }
+    a
+}
+
+fn put_cids(out: &mut [u8], at: usize, sources: &[[u64; 2]; 1024], n: usize) -> usize
+    requires { ⌜ Ready at (now out) × (n ≤ 1024) × (length (now sources) ≡ 1024) ⌝ }
+    ensures { λ r. ⌜ Tells (cidsText (sourcesOf n (now (sources .entry)))) (now (out .entry)) at (now (out .exit)) r ⌝ }
+{
+    if n == 0 {
+        return put(&mut *out, at, 45);
+    }
+    let first = sources[0];
+    let mut a = put_cid(&mut *out, at, cid_of(first));
+    let mut i: usize = 1;
+    while i < n {
+        let row = sources[i];
+        a = put(&mut *out, a, 44);
+        a = put_cid(&mut *out, a, cid_of(row));
+        i += 1;
+    }
+    a
+}
+
+fn put_sources_line(
+    out: &mut [u8],
+    at: usize,
+    mark: u8,
+    sources: &[[u64; 2]; 1024],
+    n: usize,
+) -> usize
+    requires { ⌜ Ready at (now out) × (n ≤ 1024) × (length (now sources) ≡ 1024) ⌝ }
+    ensures { λ r. ⌜ Tells (sourcesLine mark (sourcesOf n (now (sources .entry)))) (now (out .entry)) at (now (out .exit)) r ⌝ }
+{
+    let a = put(&mut *out, at, mark);
+    let b = put_text(&mut *out, a, b"c ");
+    let d = put_cids(&mut *out, b, sources, n);
+    put(&mut *out, d, 10)
+}
+
+pub fn put_table(
+    out: &mut [u8],
+    at: usize,
+    mark: u8,
+    table: PairTable,
+    pairs: &[[u64; 4]; 1024],
+    sources: &[[u64; 2]; 1024],
+) -> usize
+    requires { ⌜ Ready at (now out) × (table .count ≤ 1024) × (table .«source_count» ≤ 1024) × (length (now pairs) ≡ 1024) × (length (now sources) ≡ 1024) ⌝ }
+    ensures { λ r. ⌜ Tells (tableText mark (tableOf table (now (pairs .entry)) (now (sources .entry)))) (now (out .entry)) at (now (out .exit)) r ⌝ }
+{
+    let a = put_pairs(&mut *out, at, mark, pairs, table.count);
+    put_sources_line(&mut *out, a, mark, sources, table.source_count)
+}
+
+fn put_owner(out: &mut [u8], at: usize, owner: SourceCid) -> usize
+    requires { ⌜ Ready at (now out) ⌝ }
+    ensures { λ r. ⌜ Tells (ownerText owner) (now (out .entry)) at (now (out .exit)) r ⌝ }
+{
+    match owner {
+        SourceCid::Merged => put(out, at, 45),
+        SourceCid::Of(c) => put_cid(out, at, c),
+    }
+}
+
+fn put_entry(out: &mut [u8], at: usize, d: DmxData, values: &[u8]) -> usize
+    requires { ⌜ Ready at (now out) ⌝ }
+    ensures { λ r. ⌜ Tells (waitingLine (dmx d (now (values .entry)))) (now (out .entry)) at (now (out .exit)) r ⌝ }
+{
+    let owner = d.src_cid;
+    let a = put(&mut *out, at, 119);
+    let b = put_spaced(&mut *out, a, d.universe as u64);
+    let e = put_spaced(&mut *out, b, d.sync_uni as u64);
+    let f = put_spaced(&mut *out, e, d.priority as u64);
+    let g = put(&mut *out, f, 32);
+    let h = put_bit(&mut *out, g, d.preview);
+    let i = put(&mut *out, h, 32);
+    let j = put_owner(&mut *out, i, owner);
+    let k = put_spaced(&mut *out, j, d.recv_timestamp);
+    let l = put(&mut *out, k, 32);
+    let m = put_byte_string(&mut *out, l, values);
+    put(&mut *out, m, 10)
+}
+
+pub fn put_waiting(
+    out: &mut [u8],
+    at: usize,
+    waiting: Waiting,
+    rows: &[[u64; 9]; 64],
+    store: &[u8],
+) -> usize
+    requires { ⌜ Ready at (now out) × held.Kept (waiting .count) (now rows) (now store) ⌝ }
+    ensures { λ r. ⌜ Tells (lines waitingLine (waitingOf (waiting .count) (now (rows .entry)) (now (store .entry)))) (now (out .entry)) at (now (out .exit)) r ⌝ }
+{
+    let mut a = at;
+    let mut i: usize = 0;
+    while i < waiting.count {
+        let d = waiting.waiting_data(rows, i);
+        let values = waiting.waiting_values(rows, store, i);
+        a = put_entry(&mut *out, a, d, values);
+        i += 1;
+    }
+    a
+}
+
+// The first n numbers, or all.
+pub fn front_numbers(list: &[u16], n: usize) -> &[u16]
+    ensures { λ r. ⌜ now r ≡ take n (now (list .entry)) ⌝ }
+{
+    if n < list.len() {
+        return &list[..n];
+    }
+    list
+}
+
+pub fn put_listened(out: &mut [u8], at: usize, listened: Listened, heard: &[u16; 1024]) -> usize
+    requires { ⌜ Ready at (now out) ⌝ }
+    ensures { λ r. ⌜ Tells (listenedLine (listenedOf listened (now (heard .entry)))) (now (out .entry)) at (now (out .exit)) r ⌝ }
+{
+    let a = put_text(&mut *out, at, b"l ");
+    let b = put_list(&mut *out, a, front_numbers(heard, listened.count));
+    put(&mut *out, b, 10)
+}
+
+fn put_page(out: &mut [u8], at: usize, letter: u8, number: u64, list: &[u16]) -> usize
+    requires { ⌜ Ready at (now out) ⌝ }
+    ensures { λ r. ⌜ Tells (pageLine letter (page number (now (list .entry)))) (now (out .entry)) at (now (out .exit)) r ⌝ }
+{
+    let a = put(&mut *out, at, letter);
+    let b = put(&mut *out, a, 112);
+    let d = put_spaced(&mut *out, b, number);
+    let e = put(&mut *out, d, 32);
+    let f = put_list(&mut *out, e, list);
+    put(&mut *out, f, 10)
+}
+
+// The k-th page of a source.
+fn put_page_at(
+    out: &mut [u8],
+    at: usize,
+    letter: u8,
+    mark: u64,
+    cid: Cid,
+    k: usize,
+    discovery: Discovery,
+    pages: &[[u64; 5]; 64],
+    universes: &[u16],
+) -> usize
+    requires { ⌜ Ready at (now out) × Packing (discovery .«page_count») (now pages) (now universes) × (k < length (pages-of mark cid discovery (now pages) (now universes))) ⌝ }
+    ensures { λ r. ⌜ Tells (pageLine letter (getD (pages-of mark cid discovery (now (pages .entry)) (now (universes .entry))) k first-page)) (now (out .entry)) at (now (out .exit)) r ⌝ }
+{
+    let r = place_of_page(discovery, pages, mark, cid, k);
+    let row = pages[r];
+    let head = page_head(row);
+    let list = page_universes(discovery, pages, universes, r);
+    put_page(out, at, letter, head.number, list)
+}
+
+fn put_pages(
+    out: &mut [u8],
+    at: usize,
+    letter: u8,
+    mark: u64,
+    cid: Cid,
+    total: usize,
+    discovery: Discovery,
+    pages: &[[u64; 5]; 64],
+    universes: &[u16],
+) -> usize
+    requires { ⌜ Ready at (now out) × Packing (discovery .«page_count») (now pages) (now universes) × (total ≡ length (pages-of mark cid discovery (now pages) (now universes))) ⌝ }
+    ensures { λ r. ⌜ Tells (lines (pageLine letter) (pages-of mark cid discovery (now (pages .entry)) (now (universes .entry)))) (now (out .entry)) at (now (out .exit)) r ⌝ }
+{
+    let mut a = at;
+    let mut k: usize = 0;
+    while k < total {
+        a = put_page_at(
+            &mut *out,
+            a,
+            letter,
+            mark,
+            cid,
+            k,
+            discovery,
+            pages,
+            universes,
+        );
+        k += 1;
+    }
+    a
+}
+
+fn put_head(
+    out: &mut [u8],
+    at: usize,
+    letter: u8,
+    head: SourceHead,
+    name_row: [u8; 63],
+    total: usize,
+) -> usize
+    requires { ⌜ Ready at (now out) ⌝ }
+    ensures { λ r. ⌜ Tells (headLine letter (head .cid) (take (head .«name_length») «name_row») (head .«last_page») (head .reading) total) (now (out .entry)) at (now (out .exit)) r ⌝ }
+{
+    let a = put(&mut *out, at, letter);
+    let b = put(&mut *out, a, 32);
+    let d = put_cid(&mut *out, b, head.cid);
+    let e = put(&mut *out, d, 32);
+    let name = front(&name_row, head.name_length as usize);
+    let f = put_byte_string(&mut *out, e, name);
+    let g = put_spaced(&mut *out, f, head.last_page);
+    let h = put_spaced(&mut *out, g, head.reading);
+    let i = put_spaced(&mut *out, h, total as u64);
+    put(&mut *out, i, 10)
+}
+
+// The k-th source of a mark, with its pages.
+fn put_source_at(
+    out: &mut [u8],
+    at: usize,
+    letter: u8,
+    mark: u64,
+    k: usize,
+    discovery: Discovery,
+    sources: &[[u64; 6]; 64],
+    names: &[[u8; 63]; 64],
+    pages: &[[u64; 5]; 64],
+    universes: &[u16],
+) -> usize
+    requires { ⌜ Ready at (now out) × found.Kept discovery (now sources) (now names) (now pages) (now universes) × (k < length (sources-of mark discovery (now sources) (now names) (now pages) (now universes))) ⌝ }
+    ensures { λ r. ⌜ Tells (sourceText letter (getD (sources-of mark discovery (now (sources .entry)) (now (names .entry)) (now (pages .entry)) (now (universes .entry))) k first-source)) (now (out .entry)) at (now (out .exit)) r ⌝ }
+{
+    let r = source_place(discovery, sources, mark, k);
+    let row = sources[r];
+    let head = source_head(row);
+    let name_row = names[r];
+    let cid = head.cid;
+    let total = page_total(discovery, pages, mark, cid);
+    let a = put_head(&mut *out, at, letter, head, name_row, total);
+    put_pages(
+        &mut *out,
+        a,
+        letter,
+        mark,
+        cid,
+        total,
+        discovery,
+        pages,
+        universes,
+    )
+}
+
+fn put_sources(
+    out: &mut [u8],
+    at: usize,
+    letter: u8,
+    mark: u64,
+    count: usize,
+    discovery: Discovery,
+    sources: &[[u64; 6]; 64],
+    names: &[[u8; 63]; 64],
+    pages: &[[u64; 5]; 64],
+    universes: &[u16],
+) -> usize
+    requires { ⌜ Ready at (now out) × found.Kept discovery (now sources) (now names) (now pages) (now universes) × (count ≡ length (sources-of mark discovery (now sources) (now names) (now pages) (now universes))) ⌝ }
+    ensures { λ r. ⌜ Tells (lines (sourceText letter) (sources-of mark discovery (now (sources .entry)) (now (names .entry)) (now (pages .entry)) (now (universes .entry)))) (now (out .entry)) at (now (out .exit)) r ⌝ }
+{
+    let mut a = at;
+    let mut k: usize = 0;
+    while k < count {
+        a = put_source_at(
+            &mut *out,
+            a,
+            letter,
+            mark,
+            k,
+            discovery,
+            sources,
+            names,
+            pages,
+            universes,
+        );
+        k += 1;
+    }
+    a
+}
+
+// Partial sources, then listed ones.
+fn put_discovered(
+    out: &mut [u8],
+    at: usize,
+    discovery: Discovery,
+    sources: &[[u64; 6]; 64],
+    names: &[[u8; 63]; 64],
+    pages: &[[u64; 5]; 64],
+    universes: &[u16],
+) -> usize
+    requires { ⌜ Ready at (now out) × found.Kept discovery (now sources) (now names) (now pages) (now universes) ⌝ }
+    ensures { λ r. ⌜ Tells (discoveredText (found.discoveredOf discovery (now (sources .entry)) (now (names .entry)) (now (pages .entry)) (now (universes .entry)))) (now (out .entry)) at (now (out .exit)) r ⌝ }
+{
+    let partial = partial_count(discovery, sources);
+    let a = put_sources(
+        &mut *out,
+        at,
+        112,
+        0,
+        partial,
+        discovery,
+        sources,
+        names,
+        pages,
+        universes,
+    );
+    let listed = listed_count(discovery, sources);
+    put_sources(
+        &mut *out,
+        a,
+        113,
+        1,
+        listed,
+        discovery,
+        sources,
+        names,
+        pages,
+        universes,
+    )
+}
+
+pub fn dump(
+    out: &mut [u8],
+    at: usize,
+    receiver: Receiver,
+    data_pairs: &[[u64; 4]; 1024],
+    data_sources: &[[u64; 2]; 1024],
+    sync_pairs: &[[u64; 4]; 1024],
+    sync_sources: &[[u64; 2]; 1024],
+    rows: &[[u64; 9]; 64],
+    store: &[u8],
+    heard: &[u16; 1024],
+    sources: &[[u64; 6]; 64],
+    names: &[[u8; 63]; 64],
+    pages: &[[u64; 5]; 64],
+    universes: &[u16],
+) -> usize
+    requires { ⌜ Ready at (now out) × Kept receiver (memory (now «data_pairs») (now «data_sources») (now «sync_pairs») (now «sync_sources») (now rows) (now store) (now heard) (now sources) (now names) (now pages) (now universes)) × (held.store-length ≤ length (now store)) × (pool-length ≤ length (now universes)) ⌝ }
+    ensures { λ r. ⌜ Tells (dumpText (stateOf receiver (memory (now («data_pairs» .entry)) (now («data_sources» .entry)) (now («sync_pairs» .entry)) (now («sync_sources» .entry)) (now (rows .entry)) (now (store .entry)) (now (heard .entry)) (now (sources .entry)) (now (names .entry)) (now (pages .entry)) (now (universes .entry))))) (now (out .entry)) at (now (out .exit)) r ⌝ }
+{
+    let q = receiver.sequences;
+    let data = q.data;
+    let sync = q.sync;
+    let a = put_table(&mut *out, at, 100, data.table, data_pairs, data_sources);
+    let b = put_table(&mut *out, a, 121, sync.table, sync_pairs, sync_sources);
+    let d = put_waiting(&mut *out, b, receiver.waiting, rows, store);
+    let e = put_listened(&mut *out, d, receiver.listened, heard);
+    let f = put_discovered(
+        &mut *out,
+        e,
+        receiver.discovery,
+        sources,
+        names,
+        pages,
+        universes,
+    );
+    put_text(&mut *out, f, b".\n")
+}

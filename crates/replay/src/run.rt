@@ -1,0 +1,379 @@
+// The script line by line.
+ghost use mathlib.Core.Path.{_≡_};
+ghost use Prim.Native.Nat.{_≤_, _<_};
+ghost use lib.ListN.{length};
+ghost use Rattle.receiver.specs.View.{Memory, memory, stateOf};
+ghost use Rattle.replay.specs.Lines.{Unread, silent};
+ghost use Rattle.replay.specs.Text.{Ready};
+ghost use Rattle.replay.specs.Session.{refused, adjusted, dumped, carried, Fit, Carries, Runs};
+use crate::answers::front;
+use crate::calls::Session;
+use crate::calls::ask;
+use crate::calls::begin;
+use crate::calls::clear;
+use crate::calls::clear_all;
+use crate::calls::listen;
+use crate::calls::mute;
+use crate::calls::poll;
+use crate::calls::reset;
+use crate::calls::set;
+use crate::calls::set_limit;
+use crate::calls::step_data;
+use crate::calls::step_discovery;
+use crate::calls::step_sync;
+use crate::calls::sweep;
+use crate::dump::dump;
+use crate::lines::Input;
+use crate::lines::next_line;
+use crate::parse::Command;
+use crate::parse::Setting;
+use crate::parse::parse_line;
+use crate::print::flush;
+use crate::print::put_text;
+
+fn refuse(session: Session, out: &mut [u8]) -> Session
+    requires { ⌜ Ready (session .at) (now out) ⌝ }
+    ensures { λ r. ⌜ ((m : Memory) → Carries session m (now (out .entry)) (refused (session .settings) (stateOf (session .receiver) m)) r m (now (out .exit))) ⌝ }
+{
+    let receiver = session.receiver;
+    let settings = session.settings;
+    let at = put_text(out, session.at, b"error\n");
+    Session {
+        receiver: receiver,
+        settings: settings,
+        at: at,
+    }
+}
+
+fn adjust(session: Session, setting: Setting, out: &mut [u8]) -> Session
+    requires { ⌜ Ready (session .at) (now out) ⌝ }
+    ensures { λ r. ⌜ ((m : Memory) → Carries session m (now (out .entry)) (adjusted setting (session .settings) (stateOf (session .receiver) m)) r m (now (out .exit))) ⌝ }
+{
+    let s = session.settings;
+    match setting {
+        Setting::Preview(on) => set(session, s.set_process_preview_data(on), out),
+        Setting::AnnounceDiscovery(on) => set(session, s.set_announce_source_discovery(on), out),
+        Setting::AnnounceTermination(on) => {
+            set(session, s.set_announce_stream_termination(on), out)
+        }
+        Setting::AnnounceTimeout(on) => set(session, s.set_announce_timeout(on), out),
+        Setting::Merge(choice) => set(session, s.set_merge(choice), out),
+        Setting::NoLimit => set(session, s.clear_source_limit(), out),
+        Setting::Limit(n) => set_limit(session, n, out),
+    }
+}
+
+fn show(
+    session: Session,
+    data_pairs: &[[u64; 4]; 1024],
+    data_sources: &[[u64; 2]; 1024],
+    sync_pairs: &[[u64; 4]; 1024],
+    sync_sources: &[[u64; 2]; 1024],
+    rows: &[[u64; 9]; 64],
+    store: &[u8],
+    heard: &[u16; 1024],
+    sources: &[[u64; 6]; 64],
+    names: &[[u8; 63]; 64],
+    pages: &[[u64; 5]; 64],
+    universes: &[u16],
+    out: &mut [u8],
+) -> Session
+    requires { ⌜ Fit (session .receiver) (memory (now «data_pairs») (now «data_sources») (now «sync_pairs») (now «sync_sources») (now rows) (now store) (now heard) (now sources) (now names) (now pages) (now universes)) × Ready (session .at) (now out) ⌝ }
+    ensures { λ r. ⌜ Carries session (memory (now («data_pairs» .entry)) (now («data_sources» .entry)) (now («sync_pairs» .entry)) (now («sync_sources» .entry)) (now (rows .entry)) (now (store .entry)) (now (heard .entry)) (now (sources .entry)) (now (names .entry)) (now (pages .entry)) (now (universes .entry))) (now (out .entry)) (dumped (session .settings) (stateOf (session .receiver) (memory (now («data_pairs» .entry)) (now («data_sources» .entry)) (now («sync_pairs» .entry)) (now («sync_sources» .entry)) (now (rows .entry)) (now (store .entry)) (now (heard .entry)) (now (sources .entry)) (now (names .entry)) (now (pages .entry)) (now (universes .entry))))) r (memory (now («data_pairs» .entry)) (now («data_sources» .entry)) (now («sync_pairs» .entry)) (now («sync_sources» .entry)) (now (rows .entry)) (now (store .entry)) (now (heard .entry)) (now (sources .entry)) (now (names .entry)) (now (pages .entry)) (now (universes .entry))) (now (out .exit)) ⌝ }
+{
+    let receiver = session.receiver;
+    let settings = session.settings;
+    let at = dump(
+        out,
+        session.at,
+        receiver,
+        data_pairs,
+        data_sources,
+        sync_pairs,
+        sync_sources,
+        rows,
+        store,
+        heard,
+        sources,
+        names,
+        pages,
+        universes,
+    );
+    Session {
+        receiver: receiver,
+        settings: settings,
+        at: at,
+    }
+}
+
+fn execute(
+    session: Session,
+    data_pairs: &mut [[u64; 4]; 1024],
+    data_sources: &mut [[u64; 2]; 1024],
+    sync_pairs: &mut [[u64; 4]; 1024],
+    sync_sources: &mut [[u64; 2]; 1024],
+    rows: &mut [[u64; 9]; 64],
+    store: &mut [u8],
+    heard: &mut [u16; 1024],
+    sources: &mut [[u64; 6]; 64],
+    names: &mut [[u8; 63]; 64],
+    pages: &mut [[u64; 5]; 64],
+    universes: &mut [u16],
+    command: Command,
+    bytes: &[u8],
+    list: &[u16],
+    released: &mut [u8],
+    out: &mut [u8],
+) -> Session
+    requires { ⌜ Fit (session .receiver) (memory (now «data_pairs») (now «data_sources») (now «sync_pairs») (now «sync_sources») (now rows) (now store) (now heard) (now sources) (now names) (now pages) (now universes)) × Ready (session .at) (now out) ⌝ }
+    ensures { λ r. ⌜ Carries session (memory (now («data_pairs» .entry)) (now («data_sources» .entry)) (now («sync_pairs» .entry)) (now («sync_sources» .entry)) (now (rows .entry)) (now (store .entry)) (now (heard .entry)) (now (sources .entry)) (now (names .entry)) (now (pages .entry)) (now (universes .entry))) (now (out .entry)) (carried (memory (now («data_pairs» .entry)) (now («data_sources» .entry)) (now («sync_pairs» .entry)) (now («sync_sources» .entry)) (now (rows .entry)) (now (store .entry)) (now (heard .entry)) (now (sources .entry)) (now (names .entry)) (now (pages .entry)) (now (universes .entry))) (now (released .entry)) (now («bytes» .entry)) (now (list .entry)) command (session .settings) (stateOf (session .receiver) (memory (now («data_pairs» .entry)) (now («data_sources» .entry)) (now («sync_pairs» .entry)) (now («sync_sources» .entry)) (now (rows .entry)) (now (store .entry)) (now (heard .entry)) (now (sources .entry)) (now (names .entry)) (now (pages .entry)) (now (universes .entry))))) r (memory (now («data_pairs» .exit)) (now («data_sources» .exit)) (now («sync_pairs» .exit)) (now («sync_sources» .exit)) (now (rows .exit)) (now (store .exit)) (now (heard .exit)) (now (sources .exit)) (now (names .exit)) (now (pages .exit)) (now (universes .exit))) (now (out .exit)) ⌝ }
+{
+    match command {
+        Command::Data(line) => step_data(
+            session,
+            data_pairs,
+            data_sources,
+            sync_pairs,
+            sync_sources,
+            rows,
+            store,
+            heard,
+            &*sources,
+            &*names,
+            pages,
+            universes,
+            line,
+            bytes,
+            released,
+            out,
+        ),
+        Command::Sync(line) => step_sync(
+            session,
+            data_pairs,
+            data_sources,
+            sync_pairs,
+            sync_sources,
+            rows,
+            store,
+            &*heard,
+            &*sources,
+            &*names,
+            &*pages,
+            &*universes,
+            line,
+            released,
+            out,
+        ),
+        Command::Discovery(line) => step_discovery(
+            session,
+            data_pairs,
+            data_sources,
+            sync_pairs,
+            sync_sources,
+            rows,
+            store,
+            &*heard,
+            sources,
+            names,
+            pages,
+            universes,
+            line,
+            bytes,
+            list,
+            &*released,
+            out,
+        ),
+        Command::Dump => show(
+            session,
+            &*data_pairs,
+            &*data_sources,
+            &*sync_pairs,
+            &*sync_sources,
+            &*rows,
+            &*store,
+            &*heard,
+            &*sources,
+            &*names,
+            &*pages,
+            &*universes,
+            out,
+        ),
+        Command::Poll(now) => poll(
+            session,
+            data_pairs,
+            data_sources,
+            sync_pairs,
+            sync_sources,
+            rows,
+            store,
+            now,
+            out,
+        ),
+        Command::Sweep(now) => sweep(session, sources, names, pages, universes, now, out),
+        Command::Clear(universe) => clear(session, rows, store, universe, out),
+        Command::Listen(n) => listen(session, heard, list, n, out),
+        Command::Mute(universe) => mute(session, heard, universe, out),
+        Command::Listening(universe) => ask(session, &*heard, universe, out),
+        Command::Fresh => begin(session, heard, out),
+        Command::Set(setting) => adjust(session, setting, out),
+        Command::ClearAll => clear_all(session, out),
+        Command::Reset => reset(session, out),
+        Command::Error => refuse(session, out),
+    }
+}
+
+// Empty lines and comments print nothing.
+fn is_silent(line: &[u8]) -> bool
+    ensures { λ r. ⌜ r ≡ silent (now (line .entry)) ⌝ }
+{
+    if line.len() == 0 {
+        return true;
+    }
+    line[0] == 35
+}
+
+// What one line leaves for the next.
+pub struct Turn {
+    pub session: Session,
+    pub input: Input,
+    pub ended: bool,
+}
+
+fn take_line(
+    session: Session,
+    input: Input,
+    data_pairs: &mut [[u64; 4]; 1024],
+    data_sources: &mut [[u64; 2]; 1024],
+    sync_pairs: &mut [[u64; 4]; 1024],
+    sync_sources: &mut [[u64; 2]; 1024],
+    rows: &mut [[u64; 9]; 64],
+    store: &mut [u8],
+    heard: &mut [u16; 1024],
+    sources: &mut [[u64; 6]; 64],
+    names: &mut [[u8; 63]; 64],
+    pages: &mut [[u64; 5]; 64],
+    universes: &mut [u16],
+    chunk: &mut [u8],
+    text: &mut [u8],
+    bytes: &mut [u8],
+    list: &mut [u16],
+    released: &mut [u8],
+    out: &mut [u8],
+) -> Turn
+    requires { ⌜ Runs session input (memory (now «data_pairs») (now «data_sources») (now «sync_pairs») (now «sync_sources») (now rows) (now store) (now heard) (now sources) (now names) (now pages) (now universes)) (now chunk) (now out) ⌝ }
+    ensures { λ r. ⌜ Runs (r .session) (r .input) (memory (now («data_pairs» .exit)) (now («data_sources» .exit)) (now («sync_pairs» .exit)) (now («sync_sources» .exit)) (now (rows .exit)) (now (store .exit)) (now (heard .exit)) (now (sources .exit)) (now (names .exit)) (now (pages .exit)) (now (universes .exit))) (now (chunk .exit)) (now (out .exit)) ⌝ }
+{
+    let line = next_line(input, &mut *chunk, &mut *text);
+    let next = line.input;
+    if line.ended {
+        return Turn {
+            session: session,
+            input: next,
+            ended: true,
+        };
+    }
+    if is_silent(front(&*text, line.length)) {
+        return Turn {
+            session: session,
+            input: next,
+            ended: false,
+        };
+    }
+    if line.long {
+        let after = refuse(session, &mut *out);
+        return Turn {
+            session: after,
+            input: next,
+            ended: false,
+        };
+    }
+    let command = parse_line(front(&*text, line.length), &mut *bytes, &mut *list);
+    let after = execute(
+        session,
+        data_pairs,
+        data_sources,
+        sync_pairs,
+        sync_sources,
+        rows,
+        store,
+        heard,
+        sources,
+        names,
+        pages,
+        universes,
+        command,
+        &*bytes,
+        &*list,
+        released,
+        out,
+    );
+    Turn {
+        session: after,
+        input: next,
+        ended: false,
+    }
+}
+
+// Line after line. Nothing says that an input ends, so the lines are counted down from a number that no run uses up.
+pub fn run(
+    session: Session,
+    data_pairs: &mut [[u64; 4]; 1024],
+    data_sources: &mut [[u64; 2]; 1024],
+    sync_pairs: &mut [[u64; 4]; 1024],
+    sync_sources: &mut [[u64; 2]; 1024],
+    rows: &mut [[u64; 9]; 64],
+    store: &mut [u8],
+    heard: &mut [u16; 1024],
+    sources: &mut [[u64; 6]; 64],
+    names: &mut [[u8; 63]; 64],
+    pages: &mut [[u64; 5]; 64],
+    universes: &mut [u16],
+    chunk: &mut [u8],
+    text: &mut [u8],
+    bytes: &mut [u8],
+    list: &mut [u16],
+    released: &mut [u8],
+    out: &mut [u8],
+)
+    requires { ⌜ Fit (session .receiver) (memory (now «data_pairs») (now «data_sources») (now «sync_pairs») (now «sync_sources») (now rows) (now store) (now heard) (now sources) (now names) (now pages) (now universes)) × Ready (session .at) (now out) ⌝ }
+{
+    let first = Input::new();
+    let mut t = Turn {
+        session: session,
+        input: first,
+        ended: false,
+    };
+    let mut lines: u64 = 0xFFFF_FFFF_FFFF_FFFF;
+    while 0 < lines {
+        let s = t.session;
+        let i = t.input;
+        t = take_line(
+            s,
+            i,
+            &mut *data_pairs,
+            &mut *data_sources,
+            &mut *sync_pairs,
+            &mut *sync_sources,
+            &mut *rows,
+            &mut *store,
+            &mut *heard,
+            &mut *sources,
+            &mut *names,
+            &mut *pages,
+            &mut *universes,
+            &mut *chunk,
+            &mut *text,
+            &mut *bytes,
+            &mut *list,
+            &mut *released,
+            &mut *out,
+        );
+        if t.ended {
+            lines = 0;
+        } else {
+            lines -= 1;
+        }
+    }
+    let last = t.session;
+    flush(&*out, last.at);
+}
