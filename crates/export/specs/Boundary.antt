@@ -16,14 +16,29 @@ use Rattle.settings.specs.declared.SourceLimit.{SourceLimit}
 use Rattle.settings.specs.declared.SourceLimit.the-variants.{Unlimited, AtMost}
 use Rattle.model.specs.declared.StepAnswer.{StepAnswer}
 use Rattle.model.specs.declared.StepAnswer.the-variants as says
-use Rattle.model.specs.Answer.{stepNumber, stepValues}
+use Rattle.model.specs.declared.PollAnswer.{PollAnswer}
+use Rattle.model.specs.declared.PollAnswer.the-variants as polling
+use Rattle.model.specs.declared.ExpiryAnswer.{ExpiryAnswer}
+use Rattle.model.specs.declared.ExpiryAnswer.the-variants as expiry
+use Rattle.model.specs.declared.ListenAnswer.{ListenAnswer}
+use Rattle.model.specs.declared.ListenAnswer.the-variants as listen
+use Rattle.model.specs.declared.MuteAnswer.{MuteAnswer}
+use Rattle.model.specs.declared.MuteAnswer.the-variants as muting
+use Rattle.model.specs.declared.ClearAnswer.{ClearAnswer}
+use Rattle.model.specs.declared.ClearAnswer.the-variants as clearing
+use Rattle.model.specs.Answer.{stepNumber, stepValues, pollNumber, pollValues, expiryNumber, expiryValues, listenNumber, listenValues, muteNumber, muteValues, clearNumber, clearValues}
+use Rattle.model.specs.State.{State}
+use Rattle.discovery.specs.Discovery.{Announcement}
+use Rattle.waiting.specs.Records.{bit}
 use Rattle.model.specs.Packet.{DataPacket, SyncPacket, Packet}
 use Rattle.receiver.specs.declared.Receiver.{Receiver}
 use Rattle.receiver.specs.declared.Handled.{Handled}
-use Rattle.receiver.specs.View.{Memory, Kept, Steps}
+use Rattle.receiver.specs.View.{Memory, Kept, Steps, Does, Begins, Becomes}
 use Rattle.export.specs.declared.Header.{Header}
 use Rattle.export.specs.declared.Choices.{Choices}
 use Rattle.export.specs.declared.Data.{Data}
+use Rattle.export.specs.declared.Sync.{Sync}
+use Rattle.export.specs.declared.Page.{Page}
 use Rattle.export.specs.declared.Answer.{Answer}
 use Rattle.export.specs.declared.Reply.{Reply}
 
@@ -56,10 +71,6 @@ headerOf r = record {
   «sync_tidy» = r .sequences .sync .table .tidy;
 }
 
--- nothing of the receiver is lost
-pub there-and-back : (r : Receiver) → receiverOf (headerOf r) ≡ r
-there-and-back r = refl
-
 -- ── the settings ──
 -- merge: 0 for the choice by priority, any other number for the highest values
 abbrev pub mergeOf : ℕ → MergeChoice
@@ -71,10 +82,6 @@ limitOf n = cond (eqb n 0) Unlimited (AtMost n)
 
 abbrev pub settingsOf : Choices → Settings
 settingsOf c = settings (c .«process_preview_data») (c .«announce_source_discovery») (c .«announce_stream_termination») (c .«announce_timeout») (mergeOf (c .merge)) (limitOf (c .«source_limit»))
-
-pub settings-are : (c : Choices) (m : MergeChoice) (l : SourceLimit) → m ≡ mergeOf (c .merge) → l ≡ limitOf (c .«source_limit»)
-    → settings (c .«process_preview_data») (c .«announce_source_discovery») (c .«announce_stream_termination») (c .«announce_timeout») m l ≡ settingsOf c
-settings-are c m l e f = λ i. settings (c .«process_preview_data») (c .«announce_source_discovery») (c .«announce_stream_termination») (c .«announce_timeout») (e i) (f i)
 
 -- ── the packets ──
 abbrev pub packetIn : Data → List ℕ → DataPacket
@@ -89,6 +96,12 @@ packetIn d values = record {
   force-synchronization = d .«force_synchronization»;
   values = values;
 }
+
+abbrev pub syncIn : Sync → SyncPacket
+syncIn y = record { cid = record { hi = y .hi; lo = y .lo }; address = y .address; sequence = y .sequence }
+
+abbrev pub announcedIn : Page → List ℕ → List ℕ → Announcement
+announcedIn p called list = record { cid = record { hi = p .hi; lo = p .lo }; name = called; page = p .page; last-page = p .«last_page»; universes = list }
 
 -- ── the answers ──
 -- the values that an answer has; number 9 returns the name of the packet in hand
@@ -138,12 +151,32 @@ toldOf says.PagesFull = bareOf 13
 toldOf (says.TooShort n) = oneOf 15 n
 toldOf says.SourceWithoutPairs = bareOf 16
 
+abbrev pub polledOf : PollAnswer → Answer
+polledOf polling.Polled = bareOf 0
+polledOf (polling.UniverseTimeout c u) = pairOf 4 c u
+polledOf (polling.TooShort n) = oneOf 15 n
+
+abbrev pub sweptOf : ExpiryAnswer → Answer
+sweptOf expiry.Swept = bareOf 0
+sweptOf (expiry.TooShort n) = oneOf 15 n
+
+abbrev pub heardOf : ListenAnswer → Answer
+heardOf listen.Listening = bareOf 0
+heardOf (listen.IllegalUniverse u) = oneOf 2 u
+heardOf listen.ListenedFull = bareOf 11
+
+abbrev pub mutedOf : MuteAnswer → Answer
+mutedOf muting.Muted = bareOf 0
+mutedOf (muting.IllegalUniverse u) = oneOf 2 u
+mutedOf (muting.UniverseNotRegistered u) = oneOf 3 u
+
+abbrev pub clearedOf : ClearAnswer → Answer
+clearedOf (clearing.Cleared b) = oneOf 0 (bit b)
+clearedOf (clearing.TooShort n) = oneOf 15 n
+
 -- what a step leaves and answers
 abbrev pub replyOf : Handled → Reply
 replyOf h = record { header = headerOf (h .receiver); answer = toldOf (h .answer) }
-
-pub reply-is : (h : Handled) (x : Header) (a : Answer) → x ≡ headerOf (h .receiver) → a ≡ toldOf (h .answer) → record { header = x; answer = a } ≡ replyOf h
-reply-is h x a e f = λ i. record { header = e i; answer = f i }
 
 -- ── what an exported step promises ──
 -- the receiver's own promise, and an answer with the model's number and values
@@ -153,54 +186,9 @@ pub record Replies (S : Settings) (now : ℕ) (p : Packet) (h : Header) (m : Mem
   pub number-is : r .answer .number ≡ stepNumber answer
   pub values-are : (own : List ℕ) → valuesIn own (r .answer) ≡ stepValues own answer
 
-step-number : (a : StepAnswer) → toldOf a .number ≡ stepNumber a
-step-number says.Nothing = refl
-step-number (says.Released r b) = refl
-step-number (says.TooLong n) = refl
-step-number (says.IllegalUniverse u) = refl
-step-number (says.UniverseTimeout c u) = refl
-step-number (says.UniverseTerminated c u) = refl
-step-number (says.SourcesExceeded n) = refl
-step-number (says.OutOfSequence a l d) = refl
-step-number says.DmxMergeError = refl
-step-number says.SourceDiscovered = refl
-step-number says.PairsFull = refl
-step-number says.ListenedFull = refl
-step-number says.WaitingFull = refl
-step-number says.PagesFull = refl
-step-number (says.TooShort n) = refl
-step-number says.SourceWithoutPairs = refl
-
-step-values : (own : List ℕ) (a : StepAnswer) → valuesIn own (toldOf a) ≡ stepValues own a
-step-values own says.Nothing = refl
-step-values own (says.Released r b) = refl
-step-values own (says.TooLong n) = refl
-step-values own (says.IllegalUniverse u) = refl
-step-values own (says.UniverseTimeout c u) = refl
-step-values own (says.UniverseTerminated c u) = refl
-step-values own (says.SourcesExceeded n) = refl
-step-values own (says.OutOfSequence a l d) = refl
-step-values own says.DmxMergeError = refl
-step-values own says.SourceDiscovered = refl
-step-values own says.PairsFull = refl
-step-values own says.ListenedFull = refl
-step-values own says.WaitingFull = refl
-step-values own says.PagesFull = refl
-step-values own (says.TooShort n) = refl
-step-values own says.SourceWithoutPairs = refl
-
-pub kept-there : (h : Header) (r : Receiver) (m : Memory) → r ≡ receiverOf h → Kept (receiverOf h) m → Kept r m
-kept-there h r m e k = subst (λ (x : Receiver). Kept x m) (sym e) k
-
--- what the receiver's step ensures, told over the boundary
-pub replies : (S : Settings) (now : ℕ) (p : Packet) (h : Header) (m : Memory) (out : List ℕ) (x : Handled) (m′ : Memory) (out′ : List ℕ)
-    (T : Settings) (q : Packet) (r : Receiver) (y : Reply) → T ≡ S → q ≡ p → r ≡ receiverOf h → Steps T now q r m out (x .receiver) m′ out′ (x .answer) → y ≡ replyOf x
-    → Replies S now p h m out y m′ out′
-replies S now p h m out x m′ out′ T q r y a b c z e =
-    subst (λ (w : Reply). Replies S now p h m out w m′ out′) (sym e)
-    (record {
-      answer = x .answer;
-      steps = subst (λ (w : Receiver). Steps S now p w m out (x .receiver) m′ out′ (x .answer)) c (subst (λ (w : Packet). Steps S now w r m out (x .receiver) m′ out′ (x .answer)) b (subst (λ (w : Settings). Steps w now q r m out (x .receiver) m′ out′ (x .answer)) a z));
-      number-is = step-number (x .answer);
-      values-are = λ own. step-values own (x .answer);
-    })
+-- the same for a further call
+pub record Answers {A : Type 0} (call : State → State × A) (number : A → ℕ) (values : A → List Value) (h : Header) (m : Memory) (r : Reply) (m′ : Memory) : Type 0 where
+  pub answer : A
+  pub does : Does call number (receiverOf h) m (receiverOf (r .header)) m′ answer
+  pub number-is : r .answer .number ≡ number answer
+  pub values-are : (own : List ℕ) → valuesIn own (r .answer) ≡ values answer

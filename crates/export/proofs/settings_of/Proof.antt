@@ -1,7 +1,7 @@
 -- Both parts are turned, the rest is taken as it stands.
 -- Assumes nothing.
 use borrow.Author.Needs.{needs}
-use Rattle.export.specs.Boundary.{settings-are}
+use Rattle.export.specs.Laws.{settings-are}
 use Rattle.export.proofs.settings_of.Statement.{statement}
 use Rattle.export.proofs.settings_of.Tie as tie
 

@@ -1,6 +1,6 @@
 -- Both parts are turned.
 -- Assumes nothing.
-use Rattle.export.specs.Boundary.{reply-is}
+use Rattle.export.specs.Laws.{reply-is}
 use borrow.Author.Needs.{needs}
 use Rattle.export.proofs.step_reply.Statement.{statement}
 use Rattle.export.proofs.step_reply.Tie as tie
