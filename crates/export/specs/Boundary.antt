@@ -1,6 +1,6 @@
 -- What crosses the C boundary, as the receiver and the model have it; and what an exported call promises.
 -- Assumes nothing.
-use mathlib.Core.Path.{_≡_, refl, sym, subst}
+use mathlib.Core.Path.{_≡_}
 use mathlib.Core.Bool.{cond}
 use mathlib.Core.List.{List, [], _∷_}
 use Prim.Native.Nat.{ℕ}
@@ -26,14 +26,14 @@ use Rattle.model.specs.declared.MuteAnswer.{MuteAnswer}
 use Rattle.model.specs.declared.MuteAnswer.the-variants as muting
 use Rattle.model.specs.declared.ClearAnswer.{ClearAnswer}
 use Rattle.model.specs.declared.ClearAnswer.the-variants as clearing
-use Rattle.model.specs.Answer.{stepNumber, stepValues, pollNumber, pollValues, expiryNumber, expiryValues, listenNumber, listenValues, muteNumber, muteValues, clearNumber, clearValues}
+use Rattle.model.specs.Answer.{stepNumber, stepValues}
 use Rattle.model.specs.State.{State}
 use Rattle.discovery.specs.Discovery.{Announcement}
 use Rattle.waiting.specs.Records.{bit}
 use Rattle.model.specs.Packet.{DataPacket, SyncPacket, Packet}
 use Rattle.receiver.specs.declared.Receiver.{Receiver}
 use Rattle.receiver.specs.declared.Handled.{Handled}
-use Rattle.receiver.specs.View.{Memory, Kept, Steps, Does, Begins, Becomes}
+use Rattle.receiver.specs.View.{Memory, Steps, Does}
 use Rattle.export.specs.declared.Header.{Header}
 use Rattle.export.specs.declared.Choices.{Choices}
 use Rattle.export.specs.declared.Data.{Data}

@@ -7,9 +7,7 @@ use Rattle.rules.specs.Answer.{Value}
 use Rattle.settings.specs.declared.Settings.{Settings}
 use Rattle.settings.specs.Settings.{settings}
 use Rattle.settings.specs.declared.MergeChoice.{MergeChoice}
-use Rattle.settings.specs.declared.MergeChoice.the-variants.{DiscardLowestPriorityThenPrevious, HtpDmxMerge}
 use Rattle.settings.specs.declared.SourceLimit.{SourceLimit}
-use Rattle.settings.specs.declared.SourceLimit.the-variants.{Unlimited, AtMost}
 use Rattle.model.specs.declared.StepAnswer.{StepAnswer}
 use Rattle.model.specs.declared.StepAnswer.the-variants as says
 use Rattle.model.specs.declared.PollAnswer.{PollAnswer}
@@ -24,17 +22,12 @@ use Rattle.model.specs.declared.ClearAnswer.{ClearAnswer}
 use Rattle.model.specs.declared.ClearAnswer.the-variants as clearing
 use Rattle.model.specs.Answer.{stepNumber, stepValues, pollNumber, pollValues, expiryNumber, expiryValues, listenNumber, listenValues, muteNumber, muteValues, clearNumber, clearValues}
 use Rattle.model.specs.State.{State}
-use Rattle.discovery.specs.Discovery.{Announcement}
-use Rattle.waiting.specs.Records.{bit}
-use Rattle.model.specs.Packet.{DataPacket, SyncPacket, Packet}
+use Rattle.model.specs.Packet.{Packet}
 use Rattle.receiver.specs.declared.Receiver.{Receiver}
 use Rattle.receiver.specs.declared.Handled.{Handled}
 use Rattle.receiver.specs.View.{Memory, Kept, Steps, Does, Begins, Becomes}
 use Rattle.export.specs.declared.Header.{Header}
 use Rattle.export.specs.declared.Choices.{Choices}
-use Rattle.export.specs.declared.Data.{Data}
-use Rattle.export.specs.declared.Sync.{Sync}
-use Rattle.export.specs.declared.Page.{Page}
 use Rattle.export.specs.declared.Answer.{Answer}
 use Rattle.export.specs.declared.Reply.{Reply}
 use Rattle.export.specs.Boundary.{receiverOf, headerOf, mergeOf, limitOf, settingsOf, valuesIn, toldOf, polledOf, sweptOf, heardOf, mutedOf, clearedOf, replyOf, Replies, Answers}
