@@ -1,2 +1,3 @@
 pub mod Boundary
 pub mod Laws
+pub mod Reads

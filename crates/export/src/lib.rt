@@ -18,6 +18,9 @@ ghost use Rattle.space.specs.Space.{bytes};
 ghost use Rattle.steps.specs.View.{packetOf, syncOf};
 ghost use Rattle.receiver.specs.View.{Memory, memory, with-numbers, with-held, with-heard, with-found, stateOf, announcementOf, pool-length, Kept, Begins, Becomes};
 ghost use Rattle.export.specs.Boundary.{receiverOf, headerOf, mergeOf, limitOf, settingsOf, packetIn, syncIn, announcedIn, bareOf, oneOf, twoOf, pairOf, sequenceOf, discoveredOf, toldOf, replyOf, polledOf, sweptOf, heardOf, mutedOf, clearedOf, Replies, Answers};
+
+pub mod reads;
+
 use discovery::Discovery;
 use listening::Listened;
 use model::ClearAnswer;
