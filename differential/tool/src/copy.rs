@@ -44,6 +44,16 @@ const DRIVER: [(&str, &str); 5] = [
     ("script.rs", "script.rs"),
     ("sacn_parse_pack_error.rs", "sacn_parse_pack_error.rs"),
 ];
+/// The benchmark of both sides: the package, and its own files with their places in it.
+const BENCHMARK: &str = "benchmark";
+const BENCHMARK_FILES: [(&str, &str); 3] = [
+    ("bench/receiver/main.rs", "main.rs"),
+    ("bench/receiver/access.rs", "receive/access.rs"),
+    (
+        "differential/driver/sacn_parse_pack_error.rs",
+        "sacn_parse_pack_error.rs",
+    ),
+];
 const STAND_INS: [&str; 5] = ["uuid", "thiserror", "socket2", "byteorder", "libc"];
 
 /// Where things lie, relative to the root of the repository.
@@ -152,21 +162,63 @@ fn make_package(places: &Places, package: &str, mutant: Option<&Mutant>) -> Resu
         if mutant.is_some() { 0 } else { 2 }
     );
     for name in STAND_INS {
-        let path = fs::canonicalize(Path::new("differential/standins").join(name))
-            .map_err(|e| format!("{name}: {e}"))?;
-        cargo += &format!("{name} = {{ path = {:?} }}\n", path);
+        cargo += &dependency(name, &Path::new("differential/standins").join(name))?;
     }
     write(&folder.join("Cargo.toml"), &cargo)
+}
+
+/// Writes the benchmark's package below target/: the published files as they are but for the benchmark's access to
+/// private fields, the benchmark's own files, and the port's Rust binding.
+fn make_benchmark(places: &Places) -> Result<(), String> {
+    let folder = places.work.join(BENCHMARK);
+    for file in PUBLISHED {
+        let mut text = read(&places.published.join(file))?;
+        if file == APPENDED.0 {
+            text += APPENDED.1;
+        }
+        if file == POLL.0 && count(&text, POLL.1) != 1 {
+            return Err(format!(
+                "{file}: recv's two timeout checks are not as expected"
+            ));
+        }
+        write(&folder.join("src").join(file), &text)?;
+    }
+    for (file, place) in BENCHMARK_FILES {
+        write(&folder.join("src").join(place), &read(Path::new(file))?)?;
+    }
+    let mut cargo = format!(
+        "[package]\nname = \"{BENCHMARK}\"\nversion = \"0.0.0\"\nedition = \"2024\"\npublish = false\n\n[workspace]\n\n[dependencies]\n"
+    );
+    for name in STAND_INS {
+        cargo += &dependency(name, &Path::new("differential/standins").join(name))?;
+    }
+    cargo += &dependency("tamburelvi", Path::new("bindings/rust"))?;
+    write(&folder.join("Cargo.toml"), &cargo)
+}
+
+fn dependency(name: &str, folder: &Path) -> Result<String, String> {
+    let path = fs::canonicalize(folder).map_err(|e| format!("{name}: {e}"))?;
+    Ok(format!("{name} = {{ path = {path:?} }}\n"))
+}
+
+/// Makes and builds the benchmark; answers where it lies.
+pub fn build_benchmark(places: &Places) -> Result<PathBuf, String> {
+    make_benchmark(places)?;
+    cargo_build(places, BENCHMARK)
 }
 
 /// Makes and builds the driver over the reference (`None`) or over a mutant; answers where it lies.
 pub fn build(places: &Places, mutant: Option<&Mutant>) -> Result<PathBuf, String> {
     let package = mutant.map_or("reference".to_string(), |m| format!("mutant-{}", m.name));
     make_package(places, &package, mutant)?;
+    cargo_build(places, &package)
+}
+
+fn cargo_build(places: &Places, package: &str) -> Result<PathBuf, String> {
     let status = Command::new("cargo")
         .args(["build", "--quiet", "--release", "--offline", "--jobs", "1"])
         .arg("--manifest-path")
-        .arg(places.work.join(&package).join("Cargo.toml"))
+        .arg(places.work.join(package).join("Cargo.toml"))
         .arg("--target-dir")
         .arg(places.work.join("cargo"))
         .status()
@@ -174,5 +226,5 @@ pub fn build(places: &Places, mutant: Option<&Mutant>) -> Result<PathBuf, String
     if !status.success() {
         return Err(format!("{package} does not build"));
     }
-    Ok(places.driver(&package))
+    Ok(places.driver(package))
 }

@@ -23,6 +23,7 @@ fn main() -> ExitCode {
         ["run", ref rest @ ..] => run(rest),
         ["script", kind, seed, number] => print_script(kind, seed, number),
         ["driver"] => driver(),
+        ["benchmark"] => benchmark(),
         ["sample", count, script, output] => record(count, script, output),
         ["mutants", ref rest @ ..] => try_mutants(rest),
         ["kinds"] => {
@@ -58,6 +59,11 @@ fn reference(places: &Places) -> Result<Side, String> {
 
 fn driver() -> Result<bool, String> {
     println!("{}", reference(&Places::new())?.command[0]);
+    Ok(true)
+}
+
+fn benchmark() -> Result<bool, String> {
+    println!("{}", copy::build_benchmark(&Places::new())?.display());
     Ok(true)
 }
 

@@ -1,0 +1,164 @@
+//! What the binding itself does: numbers into enums, released bytes into records, state from call to call.
+
+use tamburelvi::{Cid, DataPacket, DiscoveryPacket, Merge, Receiver, Step, Stop, SyncPacket};
+
+fn packet(source: u8, universe: u16, sequence: u8, values: &[u8]) -> DataPacket<'_> {
+    DataPacket {
+        cid: Cid([source; 16]),
+        universe,
+        address: 0,
+        priority: 100,
+        sequence,
+        preview: false,
+        terminated: false,
+        force_synchronization: false,
+        values,
+    }
+}
+
+fn released(step: Result<Step, Stop>) -> Vec<(u16, u16, Option<Cid>, u64, Vec<u8>)> {
+    match step.expect("nothing stops it") {
+        Step::Nothing => Vec::new(),
+        Step::Released(records) => records
+            .map(|r| (r.universe, r.address, r.cid, r.reading, r.values.to_vec()))
+            .collect(),
+    }
+}
+
+#[test]
+fn a_packet_is_released() {
+    let mut receiver = Receiver::new();
+    receiver.listen_universes(&[1]).unwrap();
+    let step = receiver.handle_data_packet(1000, &packet(0x11, 1, 0, &[0, 255]));
+    let Ok(Step::Released(records)) = step else {
+        panic!("{step:?}");
+    };
+    let mut bytes = vec![0x55, 0x44, 0, 1, 0, 0, 0x64, 0, 1];
+    bytes.extend([0x11; 16]);
+    bytes.extend([0, 0, 0, 0, 0, 0, 3, 0xE8, 0, 2, 0, 255]);
+    assert_eq!((records.len(), records.bytes()), (1, &bytes[..]));
+    let all: Vec<_> = records.collect();
+    assert_eq!(all.len(), 1);
+    assert_eq!(
+        (all[0].universe, all[0].priority, all[0].cid),
+        (1, 100, Some(Cid([0x11; 16])))
+    );
+    assert_eq!((all[0].reading, all[0].values), (1000, &[0, 255][..]));
+}
+
+#[test]
+fn waiting_data_is_released_by_ascending_universe() {
+    let mut receiver = Receiver::new();
+    receiver.set_merge(Merge::HtpDmxMerge);
+    receiver.listen_universes(&[1, 2]).unwrap();
+    let synchronised = |source, universe, values| DataPacket {
+        address: 7,
+        ..packet(source, universe, 0, values)
+    };
+    for (source, universe, values) in [(1, 2, &[0, 9][..]), (1, 1, &[0, 5]), (2, 1, &[0, 3, 8])] {
+        let step = receiver.handle_data_packet(10, &synchronised(source, universe, values));
+        assert!(released(step).is_empty());
+    }
+    assert_eq!(receiver.waiting_universes(), 2);
+    let sync = SyncPacket {
+        cid: Cid([1; 16]),
+        address: 7,
+        sequence: 0,
+    };
+    assert_eq!(
+        released(receiver.handle_sync_packet(20, &sync)),
+        [
+            (1, 7, None, 10, vec![0, 5, 8]),
+            (2, 7, Some(Cid([1; 16])), 10, vec![0, 9])
+        ]
+    );
+    assert_eq!(receiver.waiting_universes(), 0);
+}
+
+#[test]
+fn stops_have_their_number_and_values() {
+    let mut receiver = Receiver::new();
+    let long = [0; 514];
+    let stop = |step: Result<Step, Stop<'static>>| step.map(|_| ()).unwrap_err();
+    assert_eq!(
+        receiver.listen_universes(&[1, 0, 64_000]),
+        Err(Stop::IllegalUniverse(0))
+    );
+    assert_eq!(
+        receiver.mute_universe(9),
+        Err(Stop::UniverseNotRegistered(9))
+    );
+    assert_eq!(receiver.set_source_limit(Some(0)), Err(Stop::LimitZero));
+    receiver.listen_universes(&[1, 2]).unwrap();
+    assert!(receiver.is_listening(2) && receiver.is_listening(64_214) && !receiver.is_listening(3));
+    assert_eq!(
+        stop(receiver.handle_data_packet(0, &packet(1, 1, 0, &long))),
+        Stop::TooLong(514)
+    );
+    released(receiver.handle_data_packet(0, &packet(1, 1, 10, &[0])));
+    let refused = stop(receiver.handle_data_packet(0, &packet(1, 1, 247, &[0])));
+    assert_eq!(
+        refused,
+        Stop::OutOfSequence {
+            arriving: 247,
+            last: 10,
+            difference: -19
+        }
+    );
+    receiver.set_source_limit(Some(1)).unwrap();
+    assert_eq!(
+        stop(receiver.handle_data_packet(0, &packet(2, 1, 0, &[0]))),
+        Stop::SourcesExceeded(1)
+    );
+    receiver.set_source_limit(None).unwrap();
+    receiver.set_announce_stream_termination(true);
+    let last = DataPacket {
+        terminated: true,
+        ..packet(1, 1, 0, &[0])
+    };
+    assert_eq!(
+        stop(receiver.handle_data_packet(0, &last)),
+        Stop::UniverseTerminated(Cid([1; 16]), 1)
+    );
+    released(receiver.handle_data_packet(0, &packet(3, 2, 0, &[0])));
+    receiver.set_announce_timeout(true);
+    assert_eq!(receiver.poll(2499), Ok(()));
+    assert_eq!(
+        receiver.poll(2500),
+        Err(Stop::UniverseTimeout(Cid([3; 16]), 2))
+    );
+    receiver.set_announce_source_discovery(true);
+    let name = String::from("a desk");
+    let page = DiscoveryPacket {
+        cid: Cid([1; 16]),
+        page: 0,
+        last_page: 0,
+        name: name.as_bytes(),
+        universes: &[1, 2],
+    };
+    let discovered = receiver
+        .handle_universe_discovery_packet(0, &page)
+        .unwrap_err();
+    assert_eq!(
+        (discovered, discovered.number()),
+        (Stop::SourceDiscovered(b"a desk"), 9)
+    );
+}
+
+#[test]
+fn forgetting() {
+    let mut receiver = Receiver::new();
+    receiver.listen_universes(&[1]).unwrap();
+    let waits = DataPacket {
+        address: 7,
+        ..packet(1, 1, 0, &[0])
+    };
+    released(receiver.handle_data_packet(0, &waits));
+    assert!(receiver.clear_waiting_data(1) && !receiver.clear_waiting_data(1));
+    assert_eq!(receiver.data_pairs(), 1);
+    receiver.reset_sources();
+    assert_eq!(receiver.data_pairs(), 0);
+    released(receiver.handle_data_packet(0, &waits));
+    receiver.clear_all_waiting_data();
+    assert_eq!(receiver.waiting_universes(), 0);
+}

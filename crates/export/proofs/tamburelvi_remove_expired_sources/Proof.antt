@@ -1,0 +1,53 @@
+-- What the receiver's call ensures, told over the boundary.
+-- Assumes nothing.
+use mathlib.Core.Path.{sym, subst}
+use Prim.Native.Nat.{_≤_}
+use lib.ListN.{length}
+use Rattle.discovery.specs.View as found
+use Rattle.space.specs.Space.{bytes}
+use Rattle.model.specs.Answer.{expiryNumber, expiryValues}
+use Rattle.model.specs.Calls.{expiry-call}
+use Rattle.receiver.specs.View.{with-found, pool-length}
+use Rattle.receiver.specs.declared.Receiver.{Receiver}
+use Rattle.export.specs.Boundary.{sweptOf}
+use Rattle.export.specs.Laws.{answers, tells-expiry}
+use borrow.Author.Needs.{needs}
+use Rattle.export.proofs.tamburelvi_remove_expired_sources.Statement.{statement}
+use Rattle.export.proofs.tamburelvi_remove_expired_sources.Tie as tie
+
+receiver-of-requires : tie.Need-receiver-of-requires
+receiver-of-requires c κs = search needs
+
+remove-expired-sources-requires : tie.Need-remove-expired-sources-requires
+remove-expired-sources-requires c κs =
+    let s = c .before .before .before .before .before .before in
+    let v = s .args in
+    subst (λ (x : Receiver). (pool-length ≤ length (v .universes .now) → found.Kept (x .discovery) (v .sources .now) (v .names .now) (v .pages .now) (v .universes .now))) (sym (c .before .before .before .before .receiver-of .ensures)) (s .pre)
+
+header-of-requires : tie.Need-header-of-requires
+header-of-requires c κs = search needs
+
+swept-requires : tie.Need-swept-requires
+swept-requires c κs = search needs
+
+same-length : tie.Need-same-length
+same-length c = search needs
+
+returns : tie.Need-returns
+returns c m =
+    let s = c .before .before .before .before .before .before .before .before .before .before .before .before in
+    let v = s .args in
+    let h = c .before .before .before .before .before .remove-expired-sources in
+    answers (expiry-call (bytes (v .universes .now)) (v .reading)) expiryNumber expiryValues sweptOf tells-expiry (v .header) (with-found (v .sources .now) (v .names .now) (v .pages .now) (v .universes .now) m) (h .result .receiver) (with-found (h .last .1 .0) (h .last .1 .1 .0) (h .last .1 .1 .1 .0) (h .last .1 .1 .1 .1 .0) m) (h .result .answer) _ _ _
+    (c .before .before .before .before .before .before .before .before .before .before .receiver-of .ensures) (h .ensures m) (c .before .header-of .ensures) (c .swept .ensures)
+
+pub tamburelvi-remove-expired-sources-spec : {M : Type 1} → statement M
+tamburelvi-remove-expired-sources-spec =
+    tie.close
+    (tie.spec
+    receiver-of-requires
+    remove-expired-sources-requires
+    header-of-requires
+    swept-requires
+    same-length
+    returns)

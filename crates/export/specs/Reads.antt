@@ -1,0 +1,94 @@
+-- What is read out of the receiver, as its parts have it; and a list's entries where its rows lie.
+-- Assumes nothing.
+use mathlib.Core.Path.{_≡_, refl, sym, ap, _∙_}
+use mathlib.Core.Bool.{Bool, true, false}
+use mathlib.Core.List.{List, [], _∷_, map}
+use Prim.Native.Nat.{ℕ, zero, suc, _≤_, _<_}
+use native.Mathlib.Omega.{arith}
+use lib.ListN.{length, take, getD, replicate, length-take}
+use lib.Seq.{getD-take}
+use Rattle.table.specs.Place.{getD-map}
+use Rattle.rules.specs.declared.Cid.{Cid}
+use Rattle.pairs.specs.declared.Pair.{Pair}
+use Rattle.pairs.specs.View.{cidOf, pairOf}
+use Rattle.merge.specs.declared.DmxData.{DmxData}
+use Rattle.merge.specs.declared.SourceCid.{SourceCid}
+use Rattle.merge.specs.declared.SourceCid.the-variants.{Merged, Of}
+use Rattle.export.specs.declared.reads.PairRead.{PairRead}
+use Rattle.export.specs.declared.reads.CidRead.{CidRead}
+use Rattle.export.specs.declared.reads.DmxRead.{DmxRead}
+
+abbrev pub pairRead : PairRead → Pair
+pairRead p = record { cid = record { hi = p .hi; lo = p .lo }; universe = p .universe; sequence = p .sequence; reading = p .reading }
+
+abbrev pub cidRead : CidRead → Cid
+cidRead c = record { hi = c .hi; lo = c .lo }
+
+-- merged data has no source
+abbrev pub owner : Bool → Cid → SourceCid
+owner false c = Merged
+owner true c = Of c
+
+abbrev pub dmxRead : DmxRead → DmxData
+dmxRead d = record {
+  universe = d .universe;
+  «sync_uni» = d .address;
+  priority = d .priority;
+  «src_cid» = owner (d .«has_cid») (record { hi = d .hi; lo = d .lo });
+  preview = d .preview;
+  «recv_timestamp» = d .reading;
+}
+
+-- ── entries ──
+past-end : {A : Type 0} (l : List A) (i : ℕ) (d : A) → length l ≤ i → getD l i d ≡ d
+past-end [] i d h = refl
+past-end (x ∷ l) zero d h = absurd (omega arith)
+past-end (x ∷ l) (suc i) d h = past-end l i d (omega arith)
+
+module _ {A B : Type 0} (f : A → B) (n i : ℕ) (rows : List A) (d : A) where
+  pub entry-at : i < n → getD (map f (take n rows)) i (f d) ≡ f (getD rows i d)
+  entry-at h = getD-map f (take n rows) i d ∙ ap f (getD-take n rows i d h)
+
+  pub entry-past : length (take n rows) ≤ i → getD (map f (take n rows)) i (f d) ≡ f d
+  entry-past h = getD-map f (take n rows) i d ∙ ap f (past-end (take n rows) i d h)
+
+  -- fewer are in use, or fewer are there
+  pub none-in-use : n ≤ i → getD (map f (take n rows)) i (f d) ≡ f d
+  none-in-use h = entry-past (omega (arith, length-take n rows))
+
+  pub none-there : length rows ≤ i → getD (map f (take n rows)) i (f d) ≡ f d
+  none-there h = entry-past (omega (arith, length-take n rows))
+
+-- a row of zeros says what no row says
+pub zero-pair : pairOf (replicate 4 0) ≡ pairOf []
+unfolding pairOf cidOf
+zero-pair = refl
+
+pub zero-cid : cidOf (replicate 2 0) ≡ cidOf []
+unfolding cidOf
+zero-cid = refl
+
+-- ── numbers as they stand ──
+module _ (n i : ℕ) (rows : List ℕ) where
+  pub number-at : i < n → getD (take n rows) i 0 ≡ getD rows i 0
+  number-at h = getD-take n rows i 0 h
+
+  pub number-unused : n ≤ i → getD (take n rows) i 0 ≡ 0
+  number-unused h = past-end (take n rows) i 0 (omega (arith, length-take n rows))
+
+  pub number-absent : length rows ≤ i → getD (take n rows) i 0 ≡ 0
+  number-absent h = past-end (take n rows) i 0 (omega (arith, length-take n rows))
+
+-- ── waiting data ──
+abbrev pub dmxOf : DmxData → SourceCid → DmxData
+dmxOf d o = record {
+  universe = d .universe;
+  «sync_uni» = d .«sync_uni»;
+  priority = d .priority;
+  «src_cid» = o;
+  preview = d .preview;
+  «recv_timestamp» = d .«recv_timestamp»;
+}
+
+pub owned-by : (d : DmxData) (o : SourceCid) → d .«src_cid» ≡ o → dmxOf d o ≡ d
+owned-by d o e = sym (λ i. dmxOf d (e i))
