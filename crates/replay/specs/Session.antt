@@ -25,7 +25,9 @@ use Rattle.replay.specs.declared.parse.Command.the-variants as says
 use Rattle.replay.specs.declared.parse.Setting.{Setting}
 use Rattle.replay.specs.declared.parse.Setting.the-variants as sets
 use Rattle.replay.specs.declared.calls.Session.{Session}
+use Rattle.replay.specs.declared.lines.Input.{Input}
 use Rattle.replay.specs.Ascii.{ascii}
+use Rattle.replay.specs.Lines.{Unread}
 use Rattle.replay.specs.Text.{Ready, Tells}
 use Rattle.replay.specs.Answers.{answerLine, flagLine, stepLine}
 use Rattle.replay.specs.Dump.{dumpText}
@@ -116,3 +118,9 @@ pub record Carries (s : Session) (m : Memory) (out : List ℕ) (o : Outcome) (s�
   pub state-is : stateOf (s′ .receiver) m′ ≡ o .state
   pub told : Tells (o .text) out (s .at) out′ (s′ .at)
   pub kept-on : Fit (s .receiver) m → Kept (s′ .receiver) m′
+
+-- what one line leaves for the next
+pub record Runs (s : Session) (i : Input) (m : Memory) (chunk out : List ℕ) : Type 0 where
+  pub fit : Fit (s .receiver) m
+  pub ready : Ready (s .at) out
+  pub unread : Unread (i .at) (i .end) chunk
