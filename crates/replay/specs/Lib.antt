@@ -8,5 +8,7 @@ pub mod LineLaws
 pub mod Answers
 pub mod Dump
 pub mod DumpLaws
+pub mod Script
+pub mod ScriptLaws
 pub mod Session
 pub mod SessionLaws

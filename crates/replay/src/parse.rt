@@ -1,4 +1,9 @@
 // A line of the script as a command.
+ghost use mathlib.Core.Path.{_≡_};
+ghost use mathlib.Core.List.{List};
+ghost use Prim.Native.Nat.{ℕ};
+ghost use lib.ListN.{length};
+ghost use Rattle.replay.specs.Script.{firstOf, restOf, pastFive, loneOf, settingWord, callWord, wordOf, settingOf, universeOf, readingOf, mergeOf, limitOf, stampOf, numbersOf, dataPacket, dataOf, syncOf, discoveryOf, listenOf, fieldsOf, lineOf, Reads};
 use crate::fields::Count;
 use crate::fields::Flag;
 use crate::fields::Number;
@@ -73,40 +78,52 @@ pub enum Command {
     Dump,
 }
 
-// The first word of a line.
-pub enum Word {
-    Unknown,
-    Fresh,
+// The first word of a line with fields.
+pub enum SettingWord {
     Preview,
-    AnnounceDiscovery,
-    AnnounceTermination,
-    AnnounceTimeout,
-    Merge,
-    Limit,
-    Listen,
+    Discovery,
+    Termination,
+    Timeout,
+}
+
+pub enum UniverseWord {
     Mute,
     Listening,
+    Clear,
+}
+
+pub enum ReadingWord {
     Poll,
     Sweep,
-    Clear,
-    ClearAll,
-    Reset,
+}
+
+pub enum Word {
+    Unknown,
     Data,
     Sync,
     Discovery,
-    Dump,
+    Listen,
+    Merge,
+    Limit,
+    Setting(SettingWord),
+    Universe(UniverseWord),
+    Reading(ReadingWord),
 }
 
 const MOST: u64 = 0xFFFF_FFFF_FFFF_FFFF;
 
 // The first field.
-fn first(text: &[u8]) -> &[u8] {
+fn first(text: &[u8]) -> &[u8]
+    ensures { λ r. ⌜ now r ≡ firstOf (now (text .entry)) ⌝ }
+{
     let e = field_end(text, 32);
     &text[..e]
 }
 
 // What stands behind the first field and its space; nothing where there is no space.
-fn rest(text: &[u8]) -> &[u8] {
+fn rest(text: &[u8]) -> &[u8]
+    ensures { λ r. ⌜ now r ≡ restOf (now (text .entry)) ⌝ }
+{
     let e = field_end(text, 32);
     if e < text.len() {
         let next = e + 1;
@@ -115,18 +132,20 @@ fn rest(text: &[u8]) -> &[u8] {
     &text[e..]
 }
 
-fn setting_word(word: &[u8]) -> Word {
+fn setting_word(word: &[u8]) -> Word
+    ensures { λ r. ⌜ r ≡ settingWord (now (word .entry)) ⌝ }
+{
     if is_same(word, b"preview") {
-        return Word::Preview;
+        return Word::Setting(SettingWord::Preview);
     }
     if is_same(word, b"announce_discovery") {
-        return Word::AnnounceDiscovery;
+        return Word::Setting(SettingWord::Discovery);
     }
     if is_same(word, b"announce_termination") {
-        return Word::AnnounceTermination;
+        return Word::Setting(SettingWord::Termination);
     }
     if is_same(word, b"announce_timeout") {
-        return Word::AnnounceTimeout;
+        return Word::Setting(SettingWord::Timeout);
     }
     if is_same(word, b"merge") {
         return Word::Merge;
@@ -137,46 +156,34 @@ fn setting_word(word: &[u8]) -> Word {
     Word::Unknown
 }
 
-fn lone_word(word: &[u8]) -> Word {
-    if is_same(word, b"fresh") {
-        return Word::Fresh;
-    }
-    if is_same(word, b"clear_all") {
-        return Word::ClearAll;
-    }
-    if is_same(word, b"reset") {
-        return Word::Reset;
-    }
-    if is_same(word, b"dump") {
-        return Word::Dump;
-    }
-    setting_word(word)
-}
-
-fn call_word(word: &[u8]) -> Word {
+fn call_word(word: &[u8]) -> Word
+    ensures { λ r. ⌜ r ≡ callWord (now (word .entry)) ⌝ }
+{
     if is_same(word, b"listen") {
         return Word::Listen;
     }
     if is_same(word, b"mute") {
-        return Word::Mute;
+        return Word::Universe(UniverseWord::Mute);
     }
     if is_same(word, b"listening") {
-        return Word::Listening;
-    }
-    if is_same(word, b"poll") {
-        return Word::Poll;
-    }
-    if is_same(word, b"sweep") {
-        return Word::Sweep;
+        return Word::Universe(UniverseWord::Listening);
     }
     if is_same(word, b"clear") {
-        return Word::Clear;
+        return Word::Universe(UniverseWord::Clear);
     }
-    lone_word(word)
+    if is_same(word, b"poll") {
+        return Word::Reading(ReadingWord::Poll);
+    }
+    if is_same(word, b"sweep") {
+        return Word::Reading(ReadingWord::Sweep);
+    }
+    setting_word(word)
 }
 
 // Packets are the most frequent, so their words are looked for first.
-fn parse_word(word: &[u8]) -> Word {
+fn parse_word(word: &[u8]) -> Word
+    ensures { λ r. ⌜ r ≡ wordOf (now (word .entry)) ⌝ }
+{
     if is_same(word, b"data") {
         return Word::Data;
     }
@@ -189,7 +196,9 @@ fn parse_word(word: &[u8]) -> Word {
     call_word(word)
 }
 
-fn parse_merge(field: &[u8]) -> Command {
+fn parse_merge(field: &[u8]) -> Command
+    ensures { λ r. ⌜ r ≡ mergeOf (now (field .entry)) ⌝ }
+{
     if is_same(field, b"priority") {
         return Command::Set(Setting::Merge(MergeChoice::DiscardLowestPriorityThenPrevious));
     }
@@ -199,7 +208,9 @@ fn parse_merge(field: &[u8]) -> Command {
     Command::Error
 }
 
-fn parse_limit(field: &[u8]) -> Command {
+fn parse_limit(field: &[u8]) -> Command
+    ensures { λ r. ⌜ r ≡ limitOf (now (field .entry)) ⌝ }
+{
     if is_same(field, b"none") {
         return Command::Set(Setting::NoLimit);
     }
@@ -220,7 +231,9 @@ pub enum Stamped {
     Bad,
 }
 
-fn parse_stamp(fields: &[u8]) -> Stamped {
+fn parse_stamp(fields: &[u8]) -> Stamped
+    ensures { λ r. ⌜ r ≡ stampOf (now (fields .entry)) ⌝ }
+{
     let Number::Of(now) = parse_number(first(fields), MOST) else {
         return Stamped::Bad;
     };
@@ -245,7 +258,9 @@ pub enum Numbered {
     Bad,
 }
 
-fn parse_data_numbers(fields: &[u8]) -> Numbered {
+fn parse_data_numbers(fields: &[u8]) -> Numbered
+    ensures { λ r. ⌜ r ≡ numbersOf (now (fields .entry)) ⌝ }
+{
     let Small::Of(universe) = parse_small(first(fields)) else {
         return Numbered::Bad;
     };
@@ -274,7 +289,9 @@ fn parse_data_numbers(fields: &[u8]) -> Numbered {
     })
 }
 
-fn data_packet(cid: Cid, n: DataNumbers) -> DataPacket {
+fn data_packet(cid: Cid, n: DataNumbers) -> DataPacket
+    ensures { λ r. ⌜ r ≡ dataPacket cid n ⌝ }
+{
     DataPacket {
         cid: cid,
         universe: n.universe,
@@ -288,7 +305,9 @@ fn data_packet(cid: Cid, n: DataNumbers) -> DataPacket {
 }
 
 // Without the first five fields.
-fn past_five(fields: &[u8]) -> &[u8] {
+fn past_five(fields: &[u8]) -> &[u8]
+    ensures { λ r. ⌜ now r ≡ pastFive (now (fields .entry)) ⌝ }
+{
     let second = rest(fields);
     let third = rest(second);
     let fourth = rest(third);
@@ -296,7 +315,9 @@ fn past_five(fields: &[u8]) -> &[u8] {
     rest(fifth)
 }
 
-fn parse_data(fields: &[u8], bytes: &mut [u8]) -> Command {
+fn parse_data(fields: &[u8], bytes: &mut [u8]) -> Command
+    ensures { λ r. ⌜ ((us : List ℕ) → Reads (dataOf (length (now («bytes» .entry))) (now (fields .entry))) r (now («bytes» .exit)) us) ⌝ }
+{
     let Stamped::Of(stamp) = parse_stamp(fields) else {
         return Command::Error;
     };
@@ -318,7 +339,9 @@ fn parse_data(fields: &[u8], bytes: &mut [u8]) -> Command {
     })
 }
 
-fn parse_sync(fields: &[u8]) -> Command {
+fn parse_sync(fields: &[u8]) -> Command
+    ensures { λ r. ⌜ r ≡ syncOf (now (fields .entry)) ⌝ }
+{
     let Stamped::Of(stamp) = parse_stamp(fields) else {
         return Command::Error;
     };
@@ -343,7 +366,9 @@ fn parse_sync(fields: &[u8]) -> Command {
     })
 }
 
-fn parse_discovery(fields: &[u8], bytes: &mut [u8], list: &mut [u16]) -> Command {
+fn parse_discovery(fields: &[u8], bytes: &mut [u8], list: &mut [u16]) -> Command
+    ensures { λ r. ⌜ Reads (discoveryOf (length (now («bytes» .entry))) (length (now (list .entry))) (now (fields .entry))) r (now («bytes» .exit)) (now (list .exit)) ⌝ }
+{
     let Stamped::Of(stamp) = parse_stamp(fields) else {
         return Command::Error;
     };
@@ -378,80 +403,98 @@ fn parse_discovery(fields: &[u8], bytes: &mut [u8], list: &mut [u16]) -> Command
     })
 }
 
-fn parse_setting(word: Word, field: &[u8]) -> Command {
+fn parse_setting(word: SettingWord, field: &[u8]) -> Command
+    ensures { λ r. ⌜ r ≡ settingOf word (now (field .entry)) ⌝ }
+{
     let Flag::Of(on) = parse_flag(field) else {
         return Command::Error;
     };
     match word {
-        Word::Preview => Command::Set(Setting::Preview(on)),
-        Word::AnnounceDiscovery => Command::Set(Setting::AnnounceDiscovery(on)),
-        Word::AnnounceTermination => Command::Set(Setting::AnnounceTermination(on)),
-        Word::AnnounceTimeout => Command::Set(Setting::AnnounceTimeout(on)),
-        _ => Command::Error,
+        SettingWord::Preview => Command::Set(Setting::Preview(on)),
+        SettingWord::Discovery => Command::Set(Setting::AnnounceDiscovery(on)),
+        SettingWord::Termination => Command::Set(Setting::AnnounceTermination(on)),
+        SettingWord::Timeout => Command::Set(Setting::AnnounceTimeout(on)),
     }
 }
 
-fn parse_universe(word: Word, field: &[u8]) -> Command {
+fn parse_universe(word: UniverseWord, field: &[u8]) -> Command
+    ensures { λ r. ⌜ r ≡ universeOf word (now (field .entry)) ⌝ }
+{
     let Small::Of(universe) = parse_small(field) else {
         return Command::Error;
     };
     match word {
-        Word::Mute => Command::Mute(universe),
-        Word::Listening => Command::Listening(universe),
-        Word::Clear => Command::Clear(universe),
-        _ => Command::Error,
+        UniverseWord::Mute => Command::Mute(universe),
+        UniverseWord::Listening => Command::Listening(universe),
+        UniverseWord::Clear => Command::Clear(universe),
     }
 }
 
-fn parse_reading(word: Word, field: &[u8]) -> Command {
+fn parse_reading(word: ReadingWord, field: &[u8]) -> Command
+    ensures { λ r. ⌜ r ≡ readingOf word (now (field .entry)) ⌝ }
+{
     let Number::Of(now) = parse_number(field, MOST) else {
         return Command::Error;
     };
     match word {
-        Word::Poll => Command::Poll(now),
-        Word::Sweep => Command::Sweep(now),
-        _ => Command::Error,
+        ReadingWord::Poll => Command::Poll(now),
+        ReadingWord::Sweep => Command::Sweep(now),
     }
 }
 
-fn parse_listen(field: &[u8], list: &mut [u16]) -> Command {
+fn parse_listen(field: &[u8], list: &mut [u16]) -> Command
+    ensures { λ r. ⌜ ((bs : List ℕ) → Reads (listenOf (length (now (list .entry))) (now (field .entry))) r bs (now (list .exit))) ⌝ }
+{
     let Count::Of(n) = parse_list(field, list) else {
         return Command::Error;
     };
     Command::Listen(n)
 }
 
-fn parse_lone(word: Word) -> Command {
-    match word {
-        Word::Fresh => Command::Fresh,
-        Word::ClearAll => Command::ClearAll,
-        Word::Reset => Command::Reset,
-        Word::Dump => Command::Dump,
-        _ => Command::Error,
+// A line of one word.
+fn parse_lone(word: &[u8]) -> Command
+    ensures { λ r. ⌜ r ≡ loneOf (now (word .entry)) ⌝ }
+{
+    if is_same(word, b"fresh") {
+        return Command::Fresh;
     }
+    if is_same(word, b"clear_all") {
+        return Command::ClearAll;
+    }
+    if is_same(word, b"reset") {
+        return Command::Reset;
+    }
+    if is_same(word, b"dump") {
+        return Command::Dump;
+    }
+    Command::Error
 }
 
 // A word with what stands behind its space.
-fn parse_fields(word: Word, fields: &[u8], bytes: &mut [u8], list: &mut [u16]) -> Command {
+fn parse_fields(word: Word, fields: &[u8], bytes: &mut [u8], list: &mut [u16]) -> Command
+    ensures { λ r. ⌜ Reads (fieldsOf (length (now («bytes» .entry))) (length (now (list .entry))) word (now (fields .entry))) r (now («bytes» .exit)) (now (list .exit)) ⌝ }
+{
     match word {
+        Word::Unknown => Command::Error,
         Word::Data => parse_data(fields, bytes),
         Word::Sync => parse_sync(fields),
         Word::Discovery => parse_discovery(fields, bytes, list),
         Word::Listen => parse_listen(fields, list),
         Word::Merge => parse_merge(fields),
         Word::Limit => parse_limit(fields),
-        Word::Poll | Word::Sweep => parse_reading(word, fields),
-        Word::Mute | Word::Listening | Word::Clear => parse_universe(word, fields),
-        _ => parse_setting(word, fields),
+        Word::Setting(w) => parse_setting(w, fields),
+        Word::Universe(w) => parse_universe(w, fields),
+        Word::Reading(w) => parse_reading(w, fields),
     }
 }
 
-pub fn parse_line(line: &[u8], bytes: &mut [u8], list: &mut [u16]) -> Command {
+pub fn parse_line(line: &[u8], bytes: &mut [u8], list: &mut [u16]) -> Command
+    ensures { λ r. ⌜ Reads (lineOf (length (now («bytes» .entry))) (length (now (list .entry))) (now (line .entry))) r (now («bytes» .exit)) (now (list .exit)) ⌝ }
+{
     let e = field_end(line, 32);
-    let word = parse_word(&line[..e]);
     if e < line.len() {
-        let next = e + 1;
-        return parse_fields(word, &line[next..], bytes, list);
+        let word = parse_word(first(line));
+        return parse_fields(word, rest(line), bytes, list);
     }
-    parse_lone(word)
+    parse_lone(line)
 }
