@@ -3,9 +3,9 @@
 use mathlib.Core.Path.{_≡_, refl, sym, ap, _∙_}
 use mathlib.Core.Bool.{Bool, true, false}
 use mathlib.Core.List.{List, [], _∷_, map}
-use Prim.Native.Nat.{ℕ, zero, suc, _≤_, _<_}
+use Prim.Native.Nat.{ℕ, zero, suc, _+_, _-_, _*_, _≤_, _<_}
 use native.Mathlib.Omega.{arith}
-use lib.ListN.{length, take, getD, replicate, length-take}
+use lib.ListN.{length, take, drop, getD, replicate, length-take}
 use lib.Seq.{getD-take}
 use Rattle.table.specs.Place.{getD-map}
 use Rattle.rules.specs.declared.Cid.{Cid}
@@ -14,6 +14,17 @@ use Rattle.pairs.specs.View.{cidOf, pairOf}
 use Rattle.merge.specs.declared.DmxData.{DmxData}
 use Rattle.merge.specs.declared.SourceCid.{SourceCid}
 use Rattle.merge.specs.declared.SourceCid.the-variants.{Merged, Of}
+use Rattle.waiting.specs.Entries.{waitingOf, nothing, countOf}
+use Rattle.waiting.specs.Entries as held
+use Rattle.waiting.specs.Calls.{values-at, values-past}
+use Rattle.discovery.specs.Discovery.{Page}
+use Rattle.discovery.specs.Rows.{amount, total}
+use Rattle.readouts.specs.declared.SourceHead.{SourceHead}
+use Rattle.readouts.specs.declared.PageHead.{PageHead}
+use Rattle.readouts.specs.Reads.{page-of-row}
+use Rattle.readouts.specs.Reads as out
+use Rattle.export.specs.declared.reads.SourceRead.{SourceRead}
+use Rattle.export.specs.declared.reads.PageRead.{PageRead}
 use Rattle.export.specs.declared.reads.PairRead.{PairRead}
 use Rattle.export.specs.declared.reads.CidRead.{CidRead}
 use Rattle.export.specs.declared.reads.DmxRead.{DmxRead}
@@ -38,6 +49,12 @@ dmxRead d = record {
   preview = d .preview;
   «recv_timestamp» = d .reading;
 }
+
+abbrev pub headRead : SourceRead → SourceHead
+headRead s = record { cid = record { hi = s .hi; lo = s .lo }; «name_length» = s .«name_length»; «last_page» = s .«last_page»; reading = s .reading }
+
+abbrev pub pageRead : PageRead → List ℕ → Page
+pageRead p universes = record { number = p .number; universes = take (p .count) (drop (p .start) universes) }
 
 -- ── entries ──
 past-end : {A : Type 0} (l : List A) (i : ℕ) (d : A) → length l ≤ i → getD l i d ≡ d
@@ -92,3 +109,17 @@ dmxOf d o = record {
 
 pub owned-by : (d : DmxData) (o : SourceCid) → d .«src_cid» ≡ o → dmxOf d o ≡ d
 owned-by d o e = sym (λ i. dmxOf d (e i))
+
+pub values-lie : (n i m : ℕ) (rows : List (List ℕ)) (store : List ℕ) → held.Kept n rows store → i < n → m ≡ countOf (getD rows i [])
+    → take m (drop (i * 513) store) ≡ getD (waitingOf n rows store) i nothing .values
+values-lie n i m rows store k h e =
+    let z : m ≡ i * 513 + m - i * 513 = omega arith in
+    ap (λ (x : ℕ). take x (drop (i * 513) store)) z ∙ values-at n i m rows store k h e
+
+-- ── a page ──
+pub page-lies : (P : List (List ℕ)) (U : List ℕ) (at start : ℕ) (h : PageHead) → out.PageRead (getD P at []) h → start ≡ total (take at P)
+    → page-of-row P U at ≡ record { number = h .number; universes = take (h .count) (drop start U) }
+unfolding page-of-row
+page-lies P U at start h x e =
+    sym ((λ i. record { number = x .number-read i; universes = take (x .count-read i) (drop start U) })
+    ∙ (λ i. record { number = getD (getD P at []) 3 0; universes = take (amount (getD P at [])) (drop (e i) U) }))

@@ -1,17 +1,28 @@
 // The receiver's state read out, entry by entry; past the last entry, zeros.
 ghost use mathlib.Core.Path.{_≡_};
 ghost use mathlib.Core.List.{List, []};
-ghost use Prim.Native.Nat.{ℕ, _≤_};
-ghost use lib.ListN.{length, getD};
+ghost use Prim.Native.Nat.{ℕ, _≤_, _<_};
+ghost use lib.ListN.{length, take, drop, getD};
 ghost use Rattle.pairs.specs.View.{cidOf, pairOf, pairsOf, sourcesOf};
 ghost use Rattle.waiting.specs.Entries.{waitingOf, nothing};
+ghost use Rattle.waiting.specs.Entries as held;
+ghost use Rattle.discovery.specs.Rows.{Few};
+ghost use Rattle.readouts.specs.Reads.{page-of-row, SourceAt, PageAt, HeadRead};
 ghost use Rattle.listening.specs.View.{listenedOf};
 ghost use Rattle.export.specs.Boundary.{receiverOf};
-ghost use Rattle.export.specs.Reads.{pairRead, cidRead, dmxRead};
+ghost use Rattle.export.specs.Reads.{pairRead, cidRead, dmxRead, headRead, pageRead};
 use crate::Header;
+use discovery::Discovery;
+use discovery::owners::offset;
 use merge::DmxData;
 use merge::SourceCid;
+use readouts::page_head;
+use readouts::place_of_page;
+use readouts::source_head;
+use readouts::source_place;
+use rules::Cid;
 use waiting::Waiting;
+use waiting::count_of;
 
 // A pair with its sequence number and its reading.
 #[repr(C)]
@@ -197,4 +208,132 @@ pub extern "C" fn tamburelvi_waiting(header: Header, rows: &[[u64; 9]; 64], at: 
     };
     let d = w.waiting_data(rows, at);
     read_dmx(d)
+}
+
+// A part of a lent memory: from start, count entries.
+#[repr(C)]
+pub struct PartRead {
+    pub start: usize,
+    pub count: usize,
+}
+
+// Where its values lie in the store.
+#[no_mangle]
+pub extern "C" fn tamburelvi_waiting_values(
+    header: Header,
+    rows: &[[u64; 9]; 64],
+    at: usize,
+) -> PartRead
+    requires { ⌜ (receiverOf header .waiting .count ≤ 64) × (length (now rows) ≡ 64) ⌝ }
+    ensures { λ r. ⌜ ((store : List ℕ) → held.Kept (receiverOf header .waiting .count) (now (rows .entry)) store → take (r .count) (drop (r .start) store) ≡ getD (waitingOf (receiverOf header .waiting .count) (now (rows .entry)) store) at nothing .values) ⌝ }
+{
+    if header.waiting <= at {
+        return PartRead { start: 0, count: 0 };
+    }
+    let row = rows[at];
+    let count = count_of(row);
+    PartRead {
+        start: at * 513,
+        count: count,
+    }
+}
+
+// A discovered source; its name is the first name_length bytes of the names' row at this place.
+#[repr(C)]
+pub struct SourceRead {
+    pub hi: u64,
+    pub lo: u64,
+    pub reading: u64,
+    pub last_page: u64,
+    pub name_length: u64,
+    pub place: usize,
+}
+
+// A page: its universes are count entries of the pool, from start.
+#[repr(C)]
+pub struct PageRead {
+    pub number: u64,
+    pub count: u64,
+    pub start: usize,
+    pub place: usize,
+}
+
+// The source of this mark (0 partial, 1 listed), by its place in its list; where there are not so many, the place is the number of sources, and the rest says nothing.
+#[no_mangle]
+pub extern "C" fn tamburelvi_source_at(
+    header: Header,
+    sources: &[[u64; 6]; 64],
+    mark: u64,
+    at: usize,
+) -> SourceRead
+    requires { ⌜ (receiverOf header .discovery .«source_count» ≤ 64) × (length (now sources) ≡ 64) ⌝ }
+    ensures placed { λ r. ⌜ ((names pages : List (List ℕ)) (universes : List ℕ) → SourceAt mark at (r .place) (receiverOf header .discovery) (now (sources .entry)) names pages universes) ⌝ }
+    ensures told { λ r. ⌜ (r .place < 64 → HeadRead (getD (now (sources .entry)) (r .place) []) (headRead r)) ⌝ }
+{
+    let d = Discovery {
+        source_count: header.sources,
+        page_count: header.pages,
+        used: header.page_universes,
+    };
+    let place = source_place(d, sources, mark, at);
+    if 64 <= place {
+        return SourceRead {
+            hi: 0,
+            lo: 0,
+            reading: 0,
+            last_page: 0,
+            name_length: 0,
+            place: place,
+        };
+    }
+    let row = sources[place];
+    let h = source_head(row);
+    SourceRead {
+        hi: h.cid.hi,
+        lo: h.cid.lo,
+        reading: h.reading,
+        last_page: h.last_page,
+        name_length: h.name_length,
+        place: place,
+    }
+}
+
+// The page of this source, by its place among the source's pages; where there are not so many, the place is the number of pages, and the rest is zeros.
+#[no_mangle]
+pub extern "C" fn tamburelvi_page_at(
+    header: Header,
+    pages: &[[u64; 5]; 64],
+    mark: u64,
+    hi: u64,
+    lo: u64,
+    at: usize,
+) -> PageRead
+    requires { ⌜ (receiverOf header .discovery .«page_count» ≤ 64) × (length (now pages) ≡ 64) × Few (take (receiverOf header .discovery .«page_count») (now pages)) ⌝ }
+    ensures placed { λ r. ⌜ ((universes : List ℕ) → PageAt mark (record { hi = hi; lo = lo }) at (r .place) (receiverOf header .discovery) (now (pages .entry)) universes) ⌝ }
+    ensures told { λ r. ⌜ (r .place < receiverOf header .discovery .«page_count» → (universes : List ℕ) → page-of-row (now (pages .entry)) universes (r .place) ≡ pageRead r universes) ⌝ }
+{
+    let d = Discovery {
+        source_count: header.sources,
+        page_count: header.pages,
+        used: header.page_universes,
+    };
+    let cid = Cid { hi, lo };
+    let place = place_of_page(d, pages, mark, cid, at);
+    if header.pages <= place {
+        return PageRead {
+            number: 0,
+            count: 0,
+            start: 0,
+            place: place,
+        };
+    }
+    let start = offset(pages, place);
+    let row = pages[place];
+    let h = page_head(row);
+    PageRead {
+        number: h.number,
+        count: h.count,
+        start: start,
+        place: place,
+    }
 }
