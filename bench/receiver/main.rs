@@ -196,7 +196,7 @@ fn run(what: &str, pairs: usize, packets: &[Packet], seconds: f64) {
             break;
         }
     }
-    assert_eq!(proved.receiver.data_pairs(), pairs);
+    assert_eq!(proved.receiver.data_pairs().len(), pairs);
     print_row(what, &pairs.to_string(), times.0, times.1);
 }
 

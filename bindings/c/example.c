@@ -37,6 +37,10 @@ int main(void) {
     show(tamburelvi_take_data(&receiver, settings, 1000, packet, values, sizeof values, out, sizeof out));
     show(tamburelvi_take_data(&receiver, settings, 1023, packet, values, sizeof values, out, sizeof out));
     show(tamburelvi_take_data(&receiver, settings, 1023, packet, values, sizeof values, out, 100));
+    for (size_t i = 0; i < receiver.header.data_pairs; i++) {
+        tamburelvi_pair_read p = tamburelvi_data_pair(receiver.header, (const uint64_t (*)[1024][4])&receiver.data_pairs, i);
+        printf("universe %d, sequence %d, at %llu\n", p.universe, p.sequence, (unsigned long long)p.reading);
+    }
     show(tamburelvi_sweep(&receiver, settings, 3500));
     return 0;
 }

@@ -146,6 +146,57 @@ typedef struct {
     uint8_t number;
 } tamburelvi_limited;
 
+/* A pair that a table holds; in the synchronisation table the universe is the address. */
+typedef struct {
+    uint64_t hi;
+    uint64_t lo;
+    uint64_t reading;
+    uint16_t universe;
+    uint8_t sequence;
+} tamburelvi_pair_read;
+
+/* A source that a table counts. */
+typedef struct {
+    uint64_t hi;
+    uint64_t lo;
+} tamburelvi_cid_read;
+
+/* Waiting data but for its values. has_cid is false where data of several sources was merged. */
+typedef struct {
+    uint64_t hi;
+    uint64_t lo;
+    uint64_t reading;
+    uint16_t universe;
+    uint16_t address;
+    uint8_t priority;
+    bool preview;
+    bool has_cid;
+} tamburelvi_dmx_read;
+
+/* A part of a memory: count entries from start. */
+typedef struct {
+    size_t start;
+    size_t count;
+} tamburelvi_part_read;
+
+/* A discovered source. Its name is the first name_length bytes of row `place` of the names. */
+typedef struct {
+    uint64_t hi;
+    uint64_t lo;
+    uint64_t reading;
+    uint64_t last_page;
+    uint64_t name_length;
+    size_t place;
+} tamburelvi_source_read;
+
+/* A page of a discovered source. Its universes are count entries of the page universes, from start. */
+typedef struct {
+    uint64_t number;
+    uint64_t count;
+    size_t start;
+    size_t place;
+} tamburelvi_page_read;
+
 /* A fresh receiver, which listens to 64214 alone. Of the memory lent later only `heard` has to be the same; the rest may hold anything. */
 tamburelvi_header tamburelvi_new(uint16_t (*heard)[1024]);
 
@@ -219,6 +270,34 @@ tamburelvi_settings tamburelvi_clear_source_limit(tamburelvi_settings settings);
 
 /* The settings with this source limit. A limit of 0 gives 14 and the settings as they were. */
 tamburelvi_limited tamburelvi_set_source_limit(tamburelvi_settings settings, uint16_t limit);
+
+/* The pair at a place of the data table, below header.data_pairs; past the last, zeros. */
+tamburelvi_pair_read tamburelvi_data_pair(tamburelvi_header header, const uint64_t (*data_pairs)[1024][4], size_t at);
+
+/* The pair at a place of the synchronisation table, below header.sync_pairs; past the last, zeros. */
+tamburelvi_pair_read tamburelvi_sync_pair(tamburelvi_header header, const uint64_t (*sync_pairs)[1024][4], size_t at);
+
+/* The source at a place of the data table's list, below header.data_sources; past the last, zeros. */
+tamburelvi_cid_read tamburelvi_data_source(tamburelvi_header header, const uint64_t (*data_sources)[1024][2], size_t at);
+
+/* The source at a place of the synchronisation table's list, below header.sync_sources; past the last, zeros. */
+tamburelvi_cid_read tamburelvi_sync_source(tamburelvi_header header, const uint64_t (*sync_sources)[1024][2], size_t at);
+
+/* The listened universe at a place, below header.listened, ascending; past the last, 0. */
+uint16_t tamburelvi_listened(tamburelvi_header header, const uint16_t (*heard)[1024], size_t at);
+
+/* What waits at a place, below header.waiting, by ascending universe, but for its values; past the last, zeros. */
+tamburelvi_dmx_read tamburelvi_waiting(tamburelvi_header header, const uint64_t (*rows)[64][9], size_t at);
+
+/* Where the values of what waits at a place lie in the store; past the last, none. */
+tamburelvi_part_read tamburelvi_waiting_values(tamburelvi_header header, const uint64_t (*rows)[64][9], size_t at);
+
+/* The source at a place of the partial sources (mark 0) or of the listed ones (mark 1). Where there are not so many, its place is header.sources, and the
+ * rest says nothing. */
+tamburelvi_source_read tamburelvi_source_at(tamburelvi_header header, const uint64_t (*sources)[64][6], uint64_t mark, size_t at);
+
+/* The page at a place among the pages of this source of this mark. Where there are not so many, its place is header.pages. */
+tamburelvi_page_read tamburelvi_page_at(tamburelvi_header header, const uint64_t (*pages)[64][5], uint64_t mark, uint64_t hi, uint64_t lo, size_t at);
 
 /* ---- a receiver with its memory ---- */
 

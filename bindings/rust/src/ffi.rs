@@ -85,6 +85,57 @@ pub struct Limited {
     pub number: u8,
 }
 
+#[repr(C)]
+pub struct PairRead {
+    pub hi: u64,
+    pub lo: u64,
+    pub reading: u64,
+    pub universe: u16,
+    pub sequence: u8,
+}
+
+#[repr(C)]
+pub struct CidRead {
+    pub hi: u64,
+    pub lo: u64,
+}
+
+#[repr(C)]
+pub struct DmxRead {
+    pub hi: u64,
+    pub lo: u64,
+    pub reading: u64,
+    pub universe: u16,
+    pub address: u16,
+    pub priority: u8,
+    pub preview: bool,
+    pub has_cid: bool,
+}
+
+#[repr(C)]
+pub struct PartRead {
+    pub start: usize,
+    pub count: usize,
+}
+
+#[repr(C)]
+pub struct SourceRead {
+    pub hi: u64,
+    pub lo: u64,
+    pub reading: u64,
+    pub last_page: u64,
+    pub name_length: u64,
+    pub place: usize,
+}
+
+#[repr(C)]
+pub struct PageRead {
+    pub number: u64,
+    pub count: u64,
+    pub start: usize,
+    pub place: usize,
+}
+
 pub type Pairs = [[u64; 4]; 1024];
 pub type Sources = [[u64; 2]; 1024];
 pub type Rows = [[u64; 9]; 64];
@@ -230,4 +281,42 @@ unsafe extern "C" {
     pub fn tamburelvi_clear_source_limit(settings: Settings) -> Settings;
 
     pub fn tamburelvi_set_source_limit(settings: Settings, limit: u16) -> Limited;
+
+    pub fn tamburelvi_data_pair(header: Header, data_pairs: *const Pairs, at: usize) -> PairRead;
+
+    pub fn tamburelvi_sync_pair(header: Header, sync_pairs: *const Pairs, at: usize) -> PairRead;
+
+    pub fn tamburelvi_data_source(
+        header: Header,
+        data_sources: *const Sources,
+        at: usize,
+    ) -> CidRead;
+
+    pub fn tamburelvi_sync_source(
+        header: Header,
+        sync_sources: *const Sources,
+        at: usize,
+    ) -> CidRead;
+
+    pub fn tamburelvi_listened(header: Header, heard: *const Heard, at: usize) -> u16;
+
+    pub fn tamburelvi_waiting(header: Header, rows: *const Rows, at: usize) -> DmxRead;
+
+    pub fn tamburelvi_waiting_values(header: Header, rows: *const Rows, at: usize) -> PartRead;
+
+    pub fn tamburelvi_source_at(
+        header: Header,
+        sources: *const Found,
+        mark: u64,
+        at: usize,
+    ) -> SourceRead;
+
+    pub fn tamburelvi_page_at(
+        header: Header,
+        pages: *const Pages,
+        mark: u64,
+        hi: u64,
+        lo: u64,
+        at: usize,
+    ) -> PageRead;
 }

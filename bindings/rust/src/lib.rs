@@ -28,8 +28,10 @@
 //! ```
 
 mod ffi;
+mod reads;
 mod record;
 
+pub use reads::{Page, Pair, Source};
 pub use record::{Record, Records};
 
 /// Bytes of output that a step needs: 64 records of the longest kind.
@@ -515,21 +517,6 @@ impl Receiver {
             0 => Ok(()),
             _ => Err(Stop::LimitZero),
         }
-    }
-
-    /// How many pairs of source and universe the data table holds.
-    pub fn data_pairs(&self) -> usize {
-        self.header.data_pairs
-    }
-
-    /// How many pairs of source and address the synchronisation table holds.
-    pub fn sync_pairs(&self) -> usize {
-        self.header.sync_pairs
-    }
-
-    /// How many universes wait for synchronisation.
-    pub fn waiting_universes(&self) -> usize {
-        self.header.waiting
     }
 }
 

@@ -59,7 +59,7 @@ fn waiting_data_is_released_by_ascending_universe() {
         let step = receiver.handle_data_packet(10, &synchronised(source, universe, values));
         assert!(released(step).is_empty());
     }
-    assert_eq!(receiver.waiting_universes(), 2);
+    assert_eq!(receiver.waiting_data().len(), 2);
     let sync = SyncPacket {
         cid: Cid([1; 16]),
         address: 7,
@@ -72,7 +72,7 @@ fn waiting_data_is_released_by_ascending_universe() {
             (2, 7, Some(Cid([1; 16])), 10, vec![0, 9])
         ]
     );
-    assert_eq!(receiver.waiting_universes(), 0);
+    assert_eq!(receiver.waiting_data().len(), 0);
 }
 
 #[test]
@@ -155,10 +155,10 @@ fn forgetting() {
     };
     released(receiver.handle_data_packet(0, &waits));
     assert!(receiver.clear_waiting_data(1) && !receiver.clear_waiting_data(1));
-    assert_eq!(receiver.data_pairs(), 1);
+    assert_eq!(receiver.data_pairs().len(), 1);
     receiver.reset_sources();
-    assert_eq!(receiver.data_pairs(), 0);
+    assert_eq!(receiver.data_pairs().len(), 0);
     released(receiver.handle_data_packet(0, &waits));
     receiver.clear_all_waiting_data();
-    assert_eq!(receiver.waiting_universes(), 0);
+    assert_eq!(receiver.waiting_data().len(), 0);
 }

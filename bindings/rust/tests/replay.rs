@@ -6,7 +6,9 @@ use std::fmt::Write as _;
 use std::io::Write as _;
 use std::path::PathBuf;
 use std::process::{Command, Stdio};
-use tamburelvi::{Cid, DataPacket, DiscoveryPacket, Merge, Receiver, Step, Stop, SyncPacket};
+use tamburelvi::{
+    Cid, DataPacket, DiscoveryPacket, Merge, Receiver, Source, Step, Stop, SyncPacket,
+};
 
 struct Random(u64);
 
@@ -93,6 +95,82 @@ fn stepped(step: Result<Step, Stop>) -> String {
         }
         Err(stop) => said(stop),
     }
+}
+
+/// The whole state, as docs/REPLAY.md's dump.
+fn dump(r: &Receiver) -> String {
+    let mut d = String::new();
+    let cids = |all: Vec<String>| {
+        if all.is_empty() {
+            "-".into()
+        } else {
+            all.join(",")
+        }
+    };
+    for p in r.data_pairs() {
+        let _ = writeln!(
+            d,
+            "d {} {} {} {}",
+            hex(&p.cid.0),
+            p.universe,
+            p.sequence,
+            p.reading
+        );
+    }
+    let _ = writeln!(
+        d,
+        "dc {}",
+        cids(r.data_sources().map(|c| hex(&c.0)).collect())
+    );
+    for p in r.sync_pairs() {
+        let _ = writeln!(
+            d,
+            "y {} {} {} {}",
+            hex(&p.cid.0),
+            p.universe,
+            p.sequence,
+            p.reading
+        );
+    }
+    let _ = writeln!(
+        d,
+        "yc {}",
+        cids(r.sync_sources().map(|c| hex(&c.0)).collect())
+    );
+    for w in r.waiting_data() {
+        let _ = writeln!(
+            d,
+            "w {} {} {} {} {} {} {}",
+            w.universe,
+            w.address,
+            w.priority,
+            u8::from(w.preview),
+            w.cid.map_or("-".into(), |c| hex(&c.0)),
+            w.reading,
+            hex(w.values)
+        );
+    }
+    let _ = writeln!(d, "l {}", list(&r.listened_universes().collect::<Vec<_>>()));
+    let mut sources = |mark: &str, all: Vec<Source>| {
+        for s in all {
+            let pages: Vec<_> = s.pages().collect();
+            let _ = writeln!(
+                d,
+                "{mark} {} {} {} {} {}",
+                hex(&s.cid.0),
+                hex(s.name),
+                s.last_page,
+                s.reading,
+                pages.len()
+            );
+            for p in pages {
+                let _ = writeln!(d, "{mark}p {} {}", p.number, list(p.universes));
+            }
+        }
+    };
+    sources("p", r.partial_sources().collect());
+    sources("q", r.listed_sources().collect());
+    d + "."
 }
 
 impl Run {
@@ -303,7 +381,10 @@ fn run(seed: u64) -> Run {
             1 => now.saturating_sub(3),
             n => now + n / 50,
         };
-        if r.chance(25) {
+        if r.chance(40) {
+            let state = dump(&run.receiver);
+            run.line("dump".into(), state);
+        } else if r.chance(25) {
             run.setting(&mut r);
         } else if r.chance(10) {
             run.call(&mut r, now, wide);
@@ -346,7 +427,7 @@ fn answers(mut program: Command, script: &str) -> String {
 
 #[test]
 fn the_same_answers_as_the_replay_program() {
-    let mut lines = 0;
+    let (mut lines, mut dumps) = (0, 0);
     let mut numbers = [0; 17];
     for seed in 0..40 {
         let Some(program) = replay() else {
@@ -355,17 +436,23 @@ fn the_same_answers_as_the_replay_program() {
         };
         let run = run(seed);
         let theirs = answers(program, &run.script);
-        let ours = run.answers.lines();
-        assert_eq!(
-            run.script.lines().count(),
-            theirs.lines().count(),
-            "one answer to each line of script {seed}"
-        );
-        for ((command, a), b) in run.script.lines().zip(ours).zip(theirs.lines()) {
-            assert_eq!(a, b, "script {seed}, {command}");
+        let mut commands = run.script.lines();
+        let mut command = commands.next();
+        let mut theirs = theirs.lines();
+        for ours in run.answers.lines() {
+            assert_eq!(Some(ours), theirs.next(), "script {seed}, {command:?}");
             lines += 1;
-            numbers[a.split(' ').next().unwrap().parse::<usize>().unwrap()] += 1;
+            // A dump has many lines, the last of which is a point.
+            if command != Some("dump") {
+                let number = ours.split(' ').next().unwrap();
+                numbers[number.parse::<usize>().unwrap()] += 1;
+                command = commands.next();
+            } else if ours == "." {
+                dumps += 1;
+                command = commands.next();
+            }
         }
+        assert_eq!(theirs.next(), None, "script {seed} has no further answers");
     }
-    println!("{lines} lines, the same answers; by number: {numbers:?}");
+    println!("{lines} lines and {dumps} dumps, the same; answers by number: {numbers:?}");
 }

@@ -16,7 +16,7 @@ use Rattle.merge.specs.declared.SourceCid.{SourceCid}
 use Rattle.merge.specs.declared.SourceCid.the-variants.{Merged, Of}
 use Rattle.waiting.specs.Entries.{waitingOf, nothing, countOf}
 use Rattle.waiting.specs.Entries as held
-use Rattle.waiting.specs.Calls.{values-at, values-past}
+use Rattle.waiting.specs.Calls.{values-at}
 use Rattle.discovery.specs.Discovery.{Page}
 use Rattle.discovery.specs.Rows.{amount, total}
 use Rattle.readouts.specs.declared.SourceHead.{SourceHead}
