@@ -8,4 +8,54 @@ mod parse;
 mod print;
 mod run;
 
-fn main() {}
+use crate::calls::Session;
+use crate::run::run;
+use receiver::Receiver;
+use settings::Settings;
+
+fn main() {
+    let mut data_pairs = [[0u64; 4]; 1024];
+    let mut data_sources = [[0u64; 2]; 1024];
+    let mut sync_pairs = [[0u64; 4]; 1024];
+    let mut sync_sources = [[0u64; 2]; 1024];
+    let mut rows = [[0u64; 9]; 64];
+    let mut store = [0u8; 32832];
+    let mut heard = [0u16; 1024];
+    let mut sources = [[0u64; 6]; 64];
+    let mut names = [[0u8; 63]; 64];
+    let mut pages = [[0u64; 5]; 64];
+    let mut universes = [0u16; 32768];
+    let mut chunk = [0u8; 65536];
+    let mut text = [0u8; 8192];
+    let mut bytes = [0u8; 4096];
+    let mut list = [0u16; 4096];
+    let mut released = [0u8; 35072];
+    let mut out = [0u8; 65536];
+    let receiver = Receiver::new(&mut heard);
+    let settings = Settings::new();
+    let session = Session {
+        receiver: receiver,
+        settings: settings,
+        at: 0,
+    };
+    run(
+        session,
+        &mut data_pairs,
+        &mut data_sources,
+        &mut sync_pairs,
+        &mut sync_sources,
+        &mut rows,
+        &mut store,
+        &mut heard,
+        &mut sources,
+        &mut names,
+        &mut pages,
+        &mut universes,
+        &mut chunk,
+        &mut text,
+        &mut bytes,
+        &mut list,
+        &mut released,
+        &mut out,
+    );
+}

@@ -1,11 +1,11 @@
 // The script line by line.
 ghost use mathlib.Core.Path.{_≡_};
-ghost use Prim.Native.Nat.{_≤_, _<_};
 ghost use lib.ListN.{length};
 ghost use Rattle.receiver.specs.View.{Memory, memory, stateOf};
-ghost use Rattle.replay.specs.Lines.{Unread, silent};
+ghost use Rattle.replay.specs.Lines.{silent};
 ghost use Rattle.replay.specs.Text.{Ready};
-ghost use Rattle.replay.specs.Session.{refused, adjusted, dumped, carried, Fit, Carries};
+ghost use Rattle.replay.specs.Session.{refused, adjusted, dumped, carried, spoken, Fit, Carries, Runs};
+use crate::answers::front;
 use crate::calls::Session;
 use crate::calls::ask;
 use crate::calls::begin;
@@ -22,8 +22,12 @@ use crate::calls::step_discovery;
 use crate::calls::step_sync;
 use crate::calls::sweep;
 use crate::dump::dump;
+use crate::lines::Input;
+use crate::lines::next_line;
 use crate::parse::Command;
 use crate::parse::Setting;
+use crate::parse::parse_line;
+use crate::print::flush;
 use crate::print::put_text;
 
 fn refuse(session: Session, out: &mut [u8]) -> Session
@@ -225,4 +229,187 @@ fn is_silent(line: &[u8]) -> bool
         return true;
     }
     line[0] == 35
+}
+
+// A line, or the front of one that is too long.
+fn carry_line(
+    session: Session,
+    data_pairs: &mut [[u64; 4]; 1024],
+    data_sources: &mut [[u64; 2]; 1024],
+    sync_pairs: &mut [[u64; 4]; 1024],
+    sync_sources: &mut [[u64; 2]; 1024],
+    rows: &mut [[u64; 9]; 64],
+    store: &mut [u8],
+    heard: &mut [u16; 1024],
+    sources: &mut [[u64; 6]; 64],
+    names: &mut [[u8; 63]; 64],
+    pages: &mut [[u64; 5]; 64],
+    universes: &mut [u16],
+    line: &[u8],
+    long: bool,
+    bytes: &mut [u8],
+    list: &mut [u16],
+    released: &mut [u8],
+    out: &mut [u8],
+) -> Session
+    requires { ⌜ Fit (session .receiver) (memory (now «data_pairs») (now «data_sources») (now «sync_pairs») (now «sync_sources») (now rows) (now store) (now heard) (now sources) (now names) (now pages) (now universes)) × Ready (session .at) (now out) ⌝ }
+    ensures { λ r. ⌜ Carries session (memory (now («data_pairs» .entry)) (now («data_sources» .entry)) (now («sync_pairs» .entry)) (now («sync_sources» .entry)) (now (rows .entry)) (now (store .entry)) (now (heard .entry)) (now (sources .entry)) (now (names .entry)) (now (pages .entry)) (now (universes .entry))) (now (out .entry)) (spoken (memory (now («data_pairs» .entry)) (now («data_sources» .entry)) (now («sync_pairs» .entry)) (now («sync_sources» .entry)) (now (rows .entry)) (now (store .entry)) (now (heard .entry)) (now (sources .entry)) (now (names .entry)) (now (pages .entry)) (now (universes .entry))) (now (released .entry)) (length (now («bytes» .entry))) (length (now (list .entry))) long (now (line .entry)) (session .settings) (stateOf (session .receiver) (memory (now («data_pairs» .entry)) (now («data_sources» .entry)) (now («sync_pairs» .entry)) (now («sync_sources» .entry)) (now (rows .entry)) (now (store .entry)) (now (heard .entry)) (now (sources .entry)) (now (names .entry)) (now (pages .entry)) (now (universes .entry))))) r (memory (now («data_pairs» .exit)) (now («data_sources» .exit)) (now («sync_pairs» .exit)) (now («sync_sources» .exit)) (now (rows .exit)) (now (store .exit)) (now (heard .exit)) (now (sources .exit)) (now (names .exit)) (now (pages .exit)) (now (universes .exit))) (now (out .exit)) ⌝ }
+{
+    if is_silent(line) {
+        return session;
+    }
+    if long {
+        return refuse(session, out);
+    }
+    let command = parse_line(line, &mut *bytes, &mut *list);
+    execute(
+        session,
+        data_pairs,
+        data_sources,
+        sync_pairs,
+        sync_sources,
+        rows,
+        store,
+        heard,
+        sources,
+        names,
+        pages,
+        universes,
+        command,
+        &*bytes,
+        &*list,
+        released,
+        out,
+    )
+}
+
+// What one line leaves for the next.
+pub struct Turn {
+    pub session: Session,
+    pub input: Input,
+    pub ended: bool,
+}
+
+fn take_line(
+    session: Session,
+    input: Input,
+    data_pairs: &mut [[u64; 4]; 1024],
+    data_sources: &mut [[u64; 2]; 1024],
+    sync_pairs: &mut [[u64; 4]; 1024],
+    sync_sources: &mut [[u64; 2]; 1024],
+    rows: &mut [[u64; 9]; 64],
+    store: &mut [u8],
+    heard: &mut [u16; 1024],
+    sources: &mut [[u64; 6]; 64],
+    names: &mut [[u8; 63]; 64],
+    pages: &mut [[u64; 5]; 64],
+    universes: &mut [u16],
+    chunk: &mut [u8],
+    text: &mut [u8],
+    bytes: &mut [u8],
+    list: &mut [u16],
+    released: &mut [u8],
+    out: &mut [u8],
+) -> Turn
+    requires { ⌜ Runs session input (memory (now «data_pairs») (now «data_sources») (now «sync_pairs») (now «sync_sources») (now rows) (now store) (now heard) (now sources) (now names) (now pages) (now universes)) (now chunk) (now out) ⌝ }
+    ensures { λ r. ⌜ Runs (r .session) (r .input) (memory (now («data_pairs» .exit)) (now («data_sources» .exit)) (now («sync_pairs» .exit)) (now («sync_sources» .exit)) (now (rows .exit)) (now (store .exit)) (now (heard .exit)) (now (sources .exit)) (now (names .exit)) (now (pages .exit)) (now (universes .exit))) (now (chunk .exit)) (now (out .exit)) ⌝ }
+{
+    let line = next_line(input, &mut *chunk, &mut *text);
+    let next = line.input;
+    if line.ended {
+        return Turn {
+            session: session,
+            input: next,
+            ended: true,
+        };
+    }
+    let after = carry_line(
+        session,
+        data_pairs,
+        data_sources,
+        sync_pairs,
+        sync_sources,
+        rows,
+        store,
+        heard,
+        sources,
+        names,
+        pages,
+        universes,
+        front(&*text, line.length),
+        line.long,
+        bytes,
+        list,
+        released,
+        out,
+    );
+    Turn {
+        session: after,
+        input: next,
+        ended: false,
+    }
+}
+
+// Line after line. Nothing says that an input ends, so the lines are counted down from a number that no run uses up.
+pub fn run(
+    session: Session,
+    data_pairs: &mut [[u64; 4]; 1024],
+    data_sources: &mut [[u64; 2]; 1024],
+    sync_pairs: &mut [[u64; 4]; 1024],
+    sync_sources: &mut [[u64; 2]; 1024],
+    rows: &mut [[u64; 9]; 64],
+    store: &mut [u8],
+    heard: &mut [u16; 1024],
+    sources: &mut [[u64; 6]; 64],
+    names: &mut [[u8; 63]; 64],
+    pages: &mut [[u64; 5]; 64],
+    universes: &mut [u16],
+    chunk: &mut [u8],
+    text: &mut [u8],
+    bytes: &mut [u8],
+    list: &mut [u16],
+    released: &mut [u8],
+    out: &mut [u8],
+)
+    requires { ⌜ Fit (session .receiver) (memory (now «data_pairs») (now «data_sources») (now «sync_pairs») (now «sync_sources») (now rows) (now store) (now heard) (now sources) (now names) (now pages) (now universes)) × Ready (session .at) (now out) ⌝ }
+{
+    let first = Input::new();
+    let mut t = Turn {
+        session: session,
+        input: first,
+        ended: false,
+    };
+    let mut lines: u64 = 0xFFFF_FFFF_FFFF_FFFF;
+    while 0 < lines {
+        let s = t.session;
+        let i = t.input;
+        t = take_line(
+            s,
+            i,
+            &mut *data_pairs,
+            &mut *data_sources,
+            &mut *sync_pairs,
+            &mut *sync_sources,
+            &mut *rows,
+            &mut *store,
+            &mut *heard,
+            &mut *sources,
+            &mut *names,
+            &mut *pages,
+            &mut *universes,
+            &mut *chunk,
+            &mut *text,
+            &mut *bytes,
+            &mut *list,
+            &mut *released,
+            &mut *out,
+        );
+        if t.ended {
+            lines = 0;
+        } else {
+            lines -= 1;
+        }
+    }
+    let last = t.session;
+    flush(&*out, last.at);
 }
