@@ -12,3 +12,4 @@ pub mod Script
 pub mod ScriptLaws
 pub mod Session
 pub mod SessionLaws
+pub mod SpokenLaws

@@ -1,7 +1,7 @@
 -- What a command does to settings and state and what it prints, by the model's definitions; and when the program's memory follows it.
 -- Assumes nothing.
 use mathlib.Core.Path.{_≡_}
-use mathlib.Core.Bool.{Bool}
+use mathlib.Core.Bool.{Bool, cond}
 use mathlib.Core.List.{List, [], _∷_, _++_}
 use Prim.Native.Nat.{ℕ, _≤_}
 use lib.ListN.{length, take}
@@ -27,10 +27,11 @@ use Rattle.replay.specs.declared.parse.Setting.the-variants as sets
 use Rattle.replay.specs.declared.calls.Session.{Session}
 use Rattle.replay.specs.declared.lines.Input.{Input}
 use Rattle.replay.specs.Ascii.{ascii}
-use Rattle.replay.specs.Lines.{Unread}
+use Rattle.replay.specs.Lines.{Unread, silent}
 use Rattle.replay.specs.Text.{Ready, Tells}
 use Rattle.replay.specs.Answers.{answerLine, flagLine, stepLine}
 use Rattle.replay.specs.Dump.{dumpText}
+use Rattle.replay.specs.Script.{lineOf}
 
 -- ── what a command does ──
 pub record Outcome : Type 0 where
@@ -104,6 +105,13 @@ carried m output bs us (says.Sync l) S s = stepped (spaceIn m output) output [] 
 carried m output bs us (says.Discovery l) S s =
     stepped (spaceIn m output) output (take (l .name) bs) (l .now) (discovery-packet (announcementOf (l .packet) (take (l .name) bs) (take (l .count) us))) S s
 carried m output bs us says.Dump S s = dumped S s
+
+-- a line, read into memory that holds so many bytes and so many numbers; of a line that is too long this is the front
+abbrev pub spoken : Memory → List ℕ → ℕ → ℕ → Bool → List ℕ → Settings → State → Outcome
+spoken m output room places long line S s =
+    cond (silent line) (outcome S s [])
+    (cond long (refused S s)
+    (let x = lineOf room places line in carried m output (x .bytes) (x .numbers) (x .command) S s))
 
 -- ── the program's memory ──
 -- a receiver whose calls may be made, with stores of full length

@@ -1,11 +1,10 @@
 // The script line by line.
 ghost use mathlib.Core.Path.{_≡_};
-ghost use Prim.Native.Nat.{_≤_, _<_};
 ghost use lib.ListN.{length};
 ghost use Rattle.receiver.specs.View.{Memory, memory, stateOf};
-ghost use Rattle.replay.specs.Lines.{Unread, silent};
+ghost use Rattle.replay.specs.Lines.{silent};
 ghost use Rattle.replay.specs.Text.{Ready};
-ghost use Rattle.replay.specs.Session.{refused, adjusted, dumped, carried, Fit, Carries, Runs};
+ghost use Rattle.replay.specs.Session.{refused, adjusted, dumped, carried, spoken, Fit, Carries, Runs};
 use crate::answers::front;
 use crate::calls::Session;
 use crate::calls::ask;
@@ -232,6 +231,58 @@ fn is_silent(line: &[u8]) -> bool
     line[0] == 35
 }
 
+// A line, or the front of one that is too long.
+fn carry_line(
+    session: Session,
+    data_pairs: &mut [[u64; 4]; 1024],
+    data_sources: &mut [[u64; 2]; 1024],
+    sync_pairs: &mut [[u64; 4]; 1024],
+    sync_sources: &mut [[u64; 2]; 1024],
+    rows: &mut [[u64; 9]; 64],
+    store: &mut [u8],
+    heard: &mut [u16; 1024],
+    sources: &mut [[u64; 6]; 64],
+    names: &mut [[u8; 63]; 64],
+    pages: &mut [[u64; 5]; 64],
+    universes: &mut [u16],
+    line: &[u8],
+    long: bool,
+    bytes: &mut [u8],
+    list: &mut [u16],
+    released: &mut [u8],
+    out: &mut [u8],
+) -> Session
+    requires { ⌜ Fit (session .receiver) (memory (now «data_pairs») (now «data_sources») (now «sync_pairs») (now «sync_sources») (now rows) (now store) (now heard) (now sources) (now names) (now pages) (now universes)) × Ready (session .at) (now out) ⌝ }
+    ensures { λ r. ⌜ Carries session (memory (now («data_pairs» .entry)) (now («data_sources» .entry)) (now («sync_pairs» .entry)) (now («sync_sources» .entry)) (now (rows .entry)) (now (store .entry)) (now (heard .entry)) (now (sources .entry)) (now (names .entry)) (now (pages .entry)) (now (universes .entry))) (now (out .entry)) (spoken (memory (now («data_pairs» .entry)) (now («data_sources» .entry)) (now («sync_pairs» .entry)) (now («sync_sources» .entry)) (now (rows .entry)) (now (store .entry)) (now (heard .entry)) (now (sources .entry)) (now (names .entry)) (now (pages .entry)) (now (universes .entry))) (now (released .entry)) (length (now («bytes» .entry))) (length (now (list .entry))) long (now (line .entry)) (session .settings) (stateOf (session .receiver) (memory (now («data_pairs» .entry)) (now («data_sources» .entry)) (now («sync_pairs» .entry)) (now («sync_sources» .entry)) (now (rows .entry)) (now (store .entry)) (now (heard .entry)) (now (sources .entry)) (now (names .entry)) (now (pages .entry)) (now (universes .entry))))) r (memory (now («data_pairs» .exit)) (now («data_sources» .exit)) (now («sync_pairs» .exit)) (now («sync_sources» .exit)) (now (rows .exit)) (now (store .exit)) (now (heard .exit)) (now (sources .exit)) (now (names .exit)) (now (pages .exit)) (now (universes .exit))) (now (out .exit)) ⌝ }
+{
+    if is_silent(line) {
+        return session;
+    }
+    if long {
+        return refuse(session, out);
+    }
+    let command = parse_line(line, &mut *bytes, &mut *list);
+    execute(
+        session,
+        data_pairs,
+        data_sources,
+        sync_pairs,
+        sync_sources,
+        rows,
+        store,
+        heard,
+        sources,
+        names,
+        pages,
+        universes,
+        command,
+        &*bytes,
+        &*list,
+        released,
+        out,
+    )
+}
+
 // What one line leaves for the next.
 pub struct Turn {
     pub session: Session,
@@ -272,23 +323,7 @@ fn take_line(
             ended: true,
         };
     }
-    if is_silent(front(&*text, line.length)) {
-        return Turn {
-            session: session,
-            input: next,
-            ended: false,
-        };
-    }
-    if line.long {
-        let after = refuse(session, &mut *out);
-        return Turn {
-            session: after,
-            input: next,
-            ended: false,
-        };
-    }
-    let command = parse_line(front(&*text, line.length), &mut *bytes, &mut *list);
-    let after = execute(
+    let after = carry_line(
         session,
         data_pairs,
         data_sources,
@@ -301,9 +336,10 @@ fn take_line(
         names,
         pages,
         universes,
-        command,
-        &*bytes,
-        &*list,
+        front(&*text, line.length),
+        line.long,
+        bytes,
+        list,
         released,
         out,
     );

@@ -1,11 +1,35 @@
--- A fresh receiver over arrays whose lengths their types say.
+-- A fresh receiver fits fresh memory.
 -- Assumes nothing.
-use mathlib.Core.Path.{refl}
-use mathlib.Core.List.{[]}
-use Rattle.receiver.specs.View.{memory}
+use mathlib.Core.Path.{sym}
+use Prim.Native.Nat.{ℕ}
+use native.Mathlib.Omega.{arith}
+use mathlib.Core.List.{List}
+use lib.ListN.{replicate, length-replicate}
+use Rattle.receiver.specs.View.{Memory, memory, Sized}
+use Rattle.replay.specs.SessionLaws.{sized-heard}
 use borrow.Author.Needs.{needs}
 use Rattle.replay.proofs.main.Statement.{statement}
 use Rattle.replay.proofs.main.Tie as tie
+
+-- the memory as it is lent first
+abbrev row : ℕ → List ℕ
+row n = replicate n 0
+
+abbrev zeros : Memory
+zeros =
+    memory (replicate 1024 (row 4)) (replicate 1024 (row 2)) (replicate 1024 (row 4)) (replicate 1024 (row 2)) (replicate 64 (row 9)) (row 32832) (row 1024) (replicate 64 (row 6)) (replicate 64 (row 63)) (replicate 64 (row 5)) (row 32768)
+
+sized : Sized zeros
+sized = record {
+  data-pairs-room = length-replicate 1024 (row 4);
+  data-sources-room = length-replicate 1024 (row 2);
+  sync-pairs-room = length-replicate 1024 (row 4);
+  sync-sources-room = length-replicate 1024 (row 2);
+  rows-room = length-replicate 64 (row 9);
+  sources-room = length-replicate 64 (row 6);
+  names-room = length-replicate 64 (row 63);
+  pages-room = length-replicate 64 (row 5);
+}
 
 new-requires : tie.Need-new-requires
 new-requires c κs = search needs
@@ -38,15 +62,9 @@ slice-aggregate-run-8 : tie.Need-slice-aggregate-run-8
 slice-aggregate-run-8 c = search needs
 
 run-requires : tie.Need-run-requires
-run-requires c κs = (
-  record {
-    kept = c .before .before .before .before .before .before .before .before .before .before .before .before .before .before .before .before .before .before .new .ensures (memory _ _ _ _ _ _ [] _ _ _ _) .kept
-        (record { data-pairs-room = refl; data-sources-room = refl; sync-pairs-room = refl; sync-sources-room = refl; rows-room = refl; sources-room = refl; names-room = refl; pages-room = refl });
-    store-room = search needs;
-    pool-room = search needs;
-  },
-  record { ready-within = search needs; ready-some = search needs },
-)
+run-requires c κs =
+    let c1 = c .before .before .before .before .before .before .before .before .before .before .before .before .before .before .before .before .before .before in
+    (record { kept = c1 .new .ensures zeros .kept (sized-heard (c1 .new .last .0) sized); store-room = omega (arith, length-replicate {A = ℕ} 32832 0); pool-room = omega (arith, length-replicate {A = ℕ} 32768 0) }, record { ready-within = omega (arith, length-replicate {A = ℕ} 65536 0); ready-some = omega (arith, length-replicate {A = ℕ} 65536 0) })
 
 returns : tie.Need-returns
 returns c = search needs
