@@ -22,7 +22,7 @@ use Rattle.sequences.specs.View as numbered
 use Rattle.sequences.specs.Laws.{answer-some, answer-none}
 use Rattle.waiting.specs.declared.Waiting.{Waiting}
 use Rattle.waiting.specs.Waiting.{cleared}
-use Rattle.waiting.specs.Entries.{waitingOf}
+use Rattle.waiting.specs.Entries.{waitingOf, lent-none}
 use Rattle.waiting.specs.Calls.{Yields, Empty}
 use Rattle.listening.specs.declared.Listened.{Listened}
 use Rattle.listening.specs.declared.ListenDone.{ListenDone}
@@ -48,7 +48,7 @@ use Rattle.steps.specs.View.{Polls}
 use Rattle.steps.specs.Laws.{refused-list}
 use Rattle.receiver.specs.declared.Receiver.{Receiver}
 use Rattle.receiver.specs.View.{Memory, numbersIn, with-numbers, with-held, with-heard, with-found, stateOf, Kept, leaves-all, Begins, Does, Becomes}
-use Rattle.receiver.specs.Laws.{room-for}
+use Rattle.receiver.specs.Laws.{room-for, polled-kept}
 
 -- ── a fresh receiver ──
 pub begins : (q : SequenceNumbering) (w : Waiting) (l : Listened) (d : Discovery) (m : Memory) → numbered.Emptied q → Empty (w .count) → Fresh l (m .heard) → Emptied d
@@ -84,7 +84,7 @@ module _ (S : Settings) (now : ℕ) (r : Receiver) (m : Memory) where
   poll-long e = rw (e, poll-call)
 
   pub does-poll-short : (n : ℕ) → short waiting-bytes (length (m .store)) ≡ some n → Does (poll-call (length (m .store)) S now) pollNumber r m r m (polling.TooShort n)
-  does-poll-short n e = record { outcome-is = poll-short n e; kept = λ k. k; all-left = λ z. (refl, refl) }
+  does-poll-short n e = record { outcome-is = poll-short n e; kept = λ k. k; all-left = λ z. (refl, refl); lent-waiting = lent-none (m .rows) (m .store) }
 
   module _ (q : SequenceNumbering) (n : numbered.Lent) (w : Waiting) (rows : Rows) (store : List ℕ) (a : SweepAnswer) (z : short waiting-bytes (length (m .store)) ≡ none)
       (p : Polls S now (r .sequences) (numbersIn m) (r .waiting .count) (m .rows) (m .store) q n (w .count) rows store a) where
@@ -99,30 +99,29 @@ module _ (S : Settings) (now : ℕ) (r : Receiver) (m : Memory) where
         poll-long z
         ∙ ap polled-by (p .state-is (stateOf r m) refl refl refl ∙ ap {B = State × Option Key} (λ (k : Option Key). (stateOf next left, k)) e)
 
-    keeps : Kept r m → Kept next left
-    keeps k = record { kept-sequences = p .kept; kept-waiting = λ h. p .kept-waiting; kept-listened = k .kept-listened; kept-discovery = k .kept-discovery }
-
     pub does-poll-told : (c : Cid) (u : ℕ) → a ≡ TimedOut c u → Does (poll-call (length (m .store)) S now) pollNumber r m next left (polling.UniverseTimeout c u)
     unfolding polled-by
     does-poll-told c u e = record {
       outcome-is = polled (some (key c u)) (answer-some (p .timed-out) c u (sym e ∙ p .answer-is));
-      kept = keeps;
+      kept = polled-kept S now r m p;
       all-left = λ f. clash f refl;
+      lent-waiting = p .lent-waiting;
     }
 
     pub does-poll : a ≡ Quiet → Does (poll-call (length (m .store)) S now) pollNumber r m next left polling.Polled
     unfolding polled-by
     does-poll e = record {
       outcome-is = polled none (answer-none (p .timed-out) (sym e ∙ p .answer-is));
-      kept = keeps;
+      kept = polled-kept S now r m p;
       all-left = λ f. clash f refl;
+      lent-waiting = p .lent-waiting;
     }
 
 -- ── the discovery sweep ──
 module _ (now : ℕ) (r : Receiver) (m : Memory) where
   pub does-expiry-short : (n : ℕ) → short page-bytes (bytes (m .universes)) ≡ some n → Does (expiry-call (bytes (m .universes)) now) expiryNumber r m r m (expiry.TooShort n)
   unfolding expiry-call
-  does-expiry-short n e = record { outcome-is = rw (e, expiry-call); kept = λ k. k; all-left = λ z. (refl, refl) }
+  does-expiry-short n e = record { outcome-is = rw (e, expiry-call); kept = λ k. k; all-left = λ z. (refl, refl); lent-waiting = lent-none (m .rows) (m .store) }
 
   expiry-long : short page-bytes (bytes (m .universes)) ≡ none
       → expiry-call (bytes (m .universes)) now (stateOf r m) ≡ (with-discovered (swept data-loss now (stateOf r m .discovered)) (stateOf r m), expiry.Swept)
@@ -137,6 +136,7 @@ module _ (now : ℕ) (r : Receiver) (m : Memory) where
     outcome-is = expiry-long e ∙ (λ i. (with-discovered (sym (h .seen) i) (stateOf r m), expiry.Swept));
     kept = λ k. record { kept-sequences = k .kept-sequences; kept-waiting = k .kept-waiting; kept-listened = k .kept-listened; kept-discovery = λ z. h .kept };
     all-left = λ f. clash f refl;
+    lent-waiting = lent-none (m .rows) (m .store);
   }
 
 -- what a pool that is long enough says of its length
@@ -182,6 +182,7 @@ module _ (r : Receiver) (m : Memory) (k : listening.Kept (r .listened) (m .heard
         let n : a .answer ≢ listen.Listening = λ e. clash f (ap (λ (x : ListenAnswer). leaves-all (listenNumber x)) e) in
         left-all (a .listened) heard (l .refused n) (l .kept)
         (ap (λ (x : List ℕ × ListenAnswer). x .0) (l .view) ∙ refused-list us (listenedOf (r .listened) (m .heard)) (λ e. n (ap (λ (x : List ℕ × ListenAnswer). x .1) (l .view) ∙ e)));
+    lent-waiting = lent-none (m .rows) (m .store);
   }
 
   pub does-mute : (u : ℕ) (a : MuteDone) (heard : List ℕ) → Mutes u (r .listened) (m .heard) a heard
@@ -194,13 +195,14 @@ module _ (r : Receiver) (m : Memory) (k : listening.Kept (r .listened) (m .heard
         let n : a .answer ≢ muting.Muted = λ e. clash f (ap (λ (x : MuteAnswer). leaves-all (muteNumber x)) e) in
         left-all (a .listened) heard (l .refused n) (l .kept)
         (ap (λ (x : List ℕ × MuteAnswer). x .0) (l .view) ∙ muted-refused u (listenedOf (r .listened) (m .heard)) (λ e. n (ap (λ (x : List ℕ × MuteAnswer). x .1) (l .view) ∙ e)));
+    lent-waiting = lent-none (m .rows) (m .store);
   }
 
 -- ── waiting data ──
 module _ (u : ℕ) (r : Receiver) (m : Memory) where
   pub does-clear-short : (n : ℕ) → short waiting-bytes (length (m .store)) ≡ some n → Does (clear-call (length (m .store)) u) clearNumber r m r m (clearing.TooShort n)
   unfolding clear-call
-  does-clear-short n e = record { outcome-is = rw (e, clear-call); kept = λ k. k; all-left = λ z. (refl, refl) }
+  does-clear-short n e = record { outcome-is = rw (e, clear-call); kept = λ k. k; all-left = λ z. (refl, refl); lent-waiting = lent-none (m .rows) (m .store) }
 
   clear-long : short waiting-bytes (length (m .store)) ≡ none
       → clear-call (length (m .store)) u (stateOf r m)
@@ -217,6 +219,7 @@ module _ (u : ℕ) (r : Receiver) (m : Memory) where
     outcome-is = clear-long e ∙ (λ i. (with-waiting (sym (y .view) i) (stateOf r m), clearing.Cleared (sym f i)));
     kept = λ k. record { kept-sequences = k .kept-sequences; kept-waiting = λ h. y .kept; kept-listened = k .kept-listened; kept-discovery = k .kept-discovery };
     all-left = λ z. clash z refl;
+    lent-waiting = y .lent;
   }
 
 pub clears-all : (r : Receiver) (w : Waiting) (m : Memory) → Empty (w .count)

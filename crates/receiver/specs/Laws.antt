@@ -10,7 +10,7 @@ use native.Mathlib.Omega.{arith}
 use lib.Dec.{ltb}
 use lib.ListN.{length}
 use borrow.Author.Tests.{ltb-false}
-use Rattle.table.specs.Cases.{split, found, clash}
+use Rattle.table.specs.Cases.{split, found, clash, missing}
 use Rattle.rules.specs.declared.Cid.{Cid}
 use Rattle.rules.specs.Answer.{first-of}
 use Rattle.settings.specs.declared.Settings.{Settings}
@@ -50,9 +50,6 @@ use Rattle.receiver.specs.declared.Receiver.{Receiver}
 use Rattle.receiver.specs.declared.DiscoveryPacket.{DiscoveryPacket}
 use Rattle.receiver.specs.View.{Memory, numbersIn, with-numbers, with-sync-numbers, with-held, with-heard, with-found, stateOf, spaceIn, pool-length, Kept, longOf, announcementOf, Opens, Ends, Takes, Steps}
 
-none-some {ℓ} : {C : Type ℓ} {A : Type 0} {a : A} → none ≡ some a → C
-none-some e = let z : _≡_ {A = ℕ} 0 1 = cc in absurd (omega arith)
-
 -- ── lengths ──
 pub short-of : (x : Measured) (o : Option ℕ) (n : ℕ) → x ≡ shortage o → x ≡ measured.TooShort n → o ≡ some n
 short-of x none n e f = let z : _≡_ {A = ℕ} 0 1 = cc in absurd (omega arith)
@@ -73,11 +70,11 @@ module _ (tag : Measured → ℕ) where
 
 -- what a store that is long enough says of its length
 pub room-for : (needed room : ℕ) → short needed room ≡ none → needed ≤ room
-room-for needed room e = split (ltb room needed) (λ h. none-some (sym (rw h at e))) (λ h. ltb-false room needed h)
+room-for needed room e = split (ltb room needed) (λ h. missing _ refl (rw h at e)) (λ h. ltb-false room needed h)
 
 first-none : (a b : Option ℕ) → first-of a b ≡ none → (a ≡ none) × (b ≡ none)
 first-none none b e = (refl, e)
-first-none (some n) b e = none-some (sym e)
+first-none (some n) b e = missing n refl e
 
 pub record Long (out store universes : List ℕ) : Type 0 where
   pub output : most-bytes ≤ length out
@@ -99,7 +96,7 @@ long-of (some n) = refl
 
 over-room : (most : ℕ) (part : List ℕ) → longer most part ≡ none → length part ≤ most
 unfolding longer
-over-room most part e = split (ltb most (length part)) (λ h. none-some (sym (rw h at e))) (λ h. ltb-false most (length part) h)
+over-room most part e = split (ltb most (length part)) (λ h. missing _ refl (rw h at e)) (λ h. ltb-false most (length part) h)
 
 pub long-data : (d : DataPacket) (x : Measured) → x ≡ excess (longer most-values (d .values)) → too-long (data-packet d) ≡ longOf x
 unfolding too-long
@@ -139,6 +136,17 @@ step-polled : (m : Space) (S : Settings) (now : ℕ) (p : Packet) (s s′ : Stat
 unfolding step model.measured
 step-polled m S now p s s′ o e f g = rw (e, step, f, model.measured) (ap (polled S now p) g)
 
+-- a poll leaves what calls presuppose
+pub polled-kept : (S : Settings) (now : ℕ) (r : Receiver) (m : Memory) {q : SequenceNumbering} {n : numbered.Lent} {w : Waiting} {rows : Rows} {store : List ℕ} {a : SweepAnswer}
+    → Polls S now (r .sequences) (numbersIn m) (r .waiting .count) (m .rows) (m .store) q n (w .count) rows store a → Kept r m
+    → Kept (record { sequences = q; waiting = w; listened = r .listened; discovery = r .discovery }) (with-numbers n (with-held rows store m))
+polled-kept S now r m p k = record {
+  kept-sequences = p .kept;
+  kept-waiting = λ h. p .kept-waiting;
+  kept-listened = k .kept-listened;
+  kept-discovery = k .kept-discovery;
+}
+
 module _ (S : Settings) (now : ℕ) (long : Option ℕ) (r : Receiver) (m : Memory) (out : List ℕ) where
   pub opens-short : (n : ℕ) → too-short (spaceIn m out) ≡ some n → Opens S now long r m out r m true (says.TooShort n)
   opens-short n z = record {
@@ -174,12 +182,8 @@ module _ (S : Settings) (now : ℕ) (long : Option ℕ) (r : Receiver) (m : Memo
         step-polled (spaceIn m out) S now x (stateOf r m) (stateOf next left) o z (f ∙ l)
         (p .state-is (stateOf r m) refl refl refl ∙ ap {B = State × Option Key} (λ (k : Option Key). (stateOf next left, k)) e)
 
-    keeps : Kept r m → Kept next left
-    unfolding next left
-    keeps k = record { kept-sequences = p .kept; kept-waiting = λ h. p .kept-waiting; kept-listened = k .kept-listened; kept-discovery = k .kept-discovery }
-
     tested : (k : ℕ) → first-of (too-short (spaceIn m out)) long ≡ some k → ⊥
-    tested k e = none-some (sym (ap (λ (x : Option ℕ). first-of x long) z ∙ l) ∙ e)
+    tested k e = missing k e (ap (λ (x : Option ℕ). first-of x long) z ∙ l)
 
     pub opens-told : (c : Cid) (u : ℕ) → a ≡ TimedOut c u
         → Opens S now long r m out (record { sequences = q; waiting = w; listened = r .listened; discovery = r .discovery }) (with-numbers n (with-held rows store m)) true (says.UniverseTimeout c u)
@@ -189,7 +193,7 @@ module _ (S : Settings) (now : ℕ) (long : Option ℕ) (r : Receiver) (m : Memo
       goes-on = λ f. clash refl f;
       fits = λ f. clash refl f;
       all-left = λ k f. absurd (tested k f);
-      kept = keeps;
+      kept = polled-kept S now r m p;
       lent-waiting = p .lent-waiting;
     }
 
@@ -201,7 +205,7 @@ module _ (S : Settings) (now : ℕ) (long : Option ℕ) (r : Receiver) (m : Memo
       goes-on = λ t x f. stepped none (answer-none (p .timed-out) (sym e ∙ p .answer-is)) x f;
       fits = λ f. (z, l);
       all-left = λ k f. absurd (tested k f);
-      kept = keeps;
+      kept = polled-kept S now r m p;
       lent-waiting = p .lent-waiting;
     }
 
@@ -392,6 +396,6 @@ module _ (S : Settings) (now : ℕ) (p : Packet) (r : Receiver) (m : Memory) (ou
     kept = t .kept (o .kept k);
     all-left = λ n f.
         let z = o .fits e in
-        none-some (sym (ap (λ (x : Option ℕ). first-of x (too-long p)) (z .0) ∙ l ∙ z .1) ∙ f);
+        missing n f (ap (λ (x : Option ℕ). first-of x (too-long p)) (z .0) ∙ l ∙ z .1);
     lent-waiting = lent-then (o .lent-waiting) (t .lent-waiting);
   }

@@ -173,11 +173,12 @@ pub record Begins (r : Receiver) (m : Memory) : Type 0 where
 abbrev pub leaves-all : ℕ → Bool
 leaves-all n = not (eqb n 0 || eqb n 4)
 
--- answer and state are the definition's; the next call may follow; a stop that leaves all leaves header and lent bytes
+-- answer and state are the definition's; the next call may follow; a stop that leaves all leaves header and lent bytes; the store past its 64 blocks stays
 pub record Does {A : Type 0} (call : State → State × A) (number : A → ℕ) (r : Receiver) (m : Memory) (r′ : Receiver) (m′ : Memory) (answer : A) : Type 0 where
   pub outcome-is : call (stateOf r m) ≡ (stateOf r′ m′, answer)
   pub kept : Kept r m → Kept r′ m′
   pub all-left : leaves-all (number answer) ≡ true → (r′ ≡ r) × (m′ ≡ m)
+  pub lent-waiting : waiting.Lent (m .rows) (m .store) (m′ .rows) (m′ .store)
 
 -- a call that touches no memory and nothing stops
 pub record Becomes (call : State → State) (r r′ : Receiver) (m : Memory) : Type 0 where

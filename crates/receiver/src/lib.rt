@@ -630,7 +630,6 @@ impl Receiver {
     ) -> AfterPoll
         requires { ⌜ numbered.Kept (self .sequences) (numbered.lent (now «data_pairs») (now «data_sources») (now «sync_pairs») (now «sync_sources»)) × (store-length ≤ length (now store) → held.Kept (self .waiting .count) (now rows) (now store)) ⌝ }
         ensures { λ r. ⌜ ((m : Memory) → Does (poll-call (length (now (store .entry))) settings reading) pollNumber self (with-numbers (numbered.lent (now («data_pairs» .entry)) (now («data_sources» .entry)) (now («sync_pairs» .entry)) (now («sync_sources» .entry))) (with-held (now (rows .entry)) (now (store .entry)) m)) (r .receiver) (with-numbers (numbered.lent (now («data_pairs» .exit)) (now («data_sources» .exit)) (now («sync_pairs» .exit)) (now («sync_sources» .exit))) (with-held (now (rows .exit)) (now (store .exit)) m)) (r .answer)) ⌝ }
-        ensures lent { λ r. ⌜ held.Lent (now (rows .entry)) (now (store .entry)) (now (rows .exit)) (now (store .exit)) ⌝ }
     {
         if let Measured::TooShort(needed) = test_waiting_store(&*store) {
             return AfterPoll {
@@ -776,7 +775,6 @@ impl Receiver {
     ) -> AfterClear
         requires { ⌜ (store-length ≤ length (now store) → held.Kept (self .waiting .count) (now rows) (now store)) ⌝ }
         ensures { λ r. ⌜ ((m : Memory) → Does (clear-call (length (now (store .entry))) universe) clearNumber self (with-held (now (rows .entry)) (now (store .entry)) m) (r .receiver) (with-held (now (rows .exit)) (now (store .exit)) m) (r .answer)) ⌝ }
-        ensures lent { λ r. ⌜ held.Lent (now (rows .entry)) (now (store .entry)) (now (rows .exit)) (now (store .exit)) ⌝ }
     {
         if let Measured::TooShort(needed) = test_waiting_store(&*store) {
             return AfterClear {
