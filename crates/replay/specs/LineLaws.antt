@@ -1,17 +1,18 @@
 -- Laws of lines gathered from chunks.
 -- Assumes nothing.
 use mathlib.Core.Path.{_≡_, refl, sym, ap, subst, _∙_}
-use mathlib.Core.Bool.{true, _||_}
+use mathlib.Core.Bool.{true, false, _||_}
 use mathlib.Core.List.{List, [], _∷_, _++_, append-assoc, append-nil}
-use Prim.Native.Nat.{ℕ, _+_, _-_, _≤_, _<_}
+use Prim.Native.Nat.{ℕ, zero, suc, _+_, _-_, _≤_, _<_}
 use native.Mathlib.Omega.{arith}
 use native.Mathlib.Numerals.{add-one}
 use lib.Dec.{ltb, eqb}
 use lib.ListN.{length, take, drop, getD, set, length-set, length-append}
-use lib.Seq.{take-all, take-suc-set, length-take-le, take-append-add}
+use lib.Seq.{take-all, take-suc-set, length-take-le, take-append-add, getD-take, take-take}
+use borrow.Author.Tests.{ne-eqb}
 use Rattle.replay.specs.declared.lines.Line.{Line}
 use Rattle.replay.specs.Fields.{Ends}
-use Rattle.replay.specs.Lines.{Unread, Appended, Pieced, between, silent}
+use Rattle.replay.specs.Lines.{Unread, Appended, Pieced, between, unreturned, silent}
 use Rattle.replay.specs.TextLaws.{take-more}
 
 -- a loop that copies byte by byte: the first i bytes of the part stand behind the first n of the line
@@ -83,3 +84,27 @@ silent-none (b ∷ s) h = absurd (omega arith)
 pub silent-mark : (s : List ℕ) → (length s ≡ 0 → ⊥) → silent s ≡ eqb (getD s 0 0) 35
 silent-mark [] h = absurd (h refl)
 silent-mark (b ∷ s) h = refl
+
+-- ── carriage return and line feed ──
+front-last : (s : List ℕ) (n : ℕ) → (n ≡ 0 → ⊥) → n ≤ length s → getD (take n s) (length (take n s) - 1) 0 ≡ getD s (n - 1) 0
+front-last s n h k = rw (length-take-le n s k) (getD-take n s (n - 1) 0 (below n h))
+  where
+    below : (n : ℕ) → (n ≡ 0 → ⊥) → n - 1 < n
+    below zero h = absurd (h refl)
+    below (suc n) h = omega arith
+
+pub unreturned-none : (s : List ℕ) (n : ℕ) → n ≡ 0 → take n s ≡ unreturned (take n s)
+unfolding unreturned
+unreturned-none s n e = rw e refl
+
+pub unreturned-return : (s : List ℕ) (n : ℕ) → (n ≡ 0 → ⊥) → n ≤ length s → getD s (n - 1) 0 ≡ 13 → take (n - 1) s ≡ unreturned (take n s)
+unfolding unreturned
+unreturned-return s n h k e =
+    let t : eqb (getD (take n s) (length (take n s) - 1) 0) 13 ≡ true = rw (front-last s n h k, e) refl in
+    rw (t, length-take-le n s k) (sym (take-take (n - 1) n s (omega arith)))
+
+pub unreturned-other : (s : List ℕ) (n : ℕ) → (n ≡ 0 → ⊥) → n ≤ length s → (getD s (n - 1) 0 ≡ 13 → ⊥) → take n s ≡ unreturned (take n s)
+unfolding unreturned
+unreturned-other s n h k e =
+    let t : eqb (getD (take n s) (length (take n s) - 1) 0) 13 ≡ false = rw (front-last s n h k) (ne-eqb (getD s (n - 1) 0) 13 e) in
+    rw t refl

@@ -1,11 +1,11 @@
 -- Lines gathered from chunks.
 -- Assumes nothing.
 use mathlib.Core.Path.{_≡_}
-use mathlib.Core.Bool.{Bool, true, _||_}
+use mathlib.Core.Bool.{Bool, true, cond, _||_}
 use mathlib.Core.List.{List, [], _∷_, _++_}
 use Prim.Native.Nat.{ℕ, _-_, _≤_}
 use lib.Dec.{ltb, eqb}
-use lib.ListN.{length, take, drop}
+use lib.ListN.{length, take, drop, getD}
 use Rattle.replay.specs.declared.lines.Line.{Line}
 use Rattle.replay.specs.Fields.{ending}
 
@@ -38,6 +38,10 @@ pub record Pieced (line : Line) (chunk text : List ℕ) (r : Line) (text′ : Li
   pub put-behind : Appended text (line .length) (piece line chunk) text′ (r .length)
   pub whole : r .over ≡ ended-in line chunk
   pub cut : r .long ≡ (line .long || ltb (r .length - line .length) (length (piece line chunk)))
+
+-- a line that ends in carriage return and line feed is read like any other
+unfoldable pub unreturned : List ℕ → List ℕ
+unreturned s = cond (eqb (getD s (length s - 1) 0) 13) (take (length s - 1) s) s
 
 -- "Empty lines and lines that begin with `#` are passed over and print nothing."
 abbrev pub silent : List ℕ → Bool

@@ -51,12 +51,13 @@ listText [] = 45 ∷ []
 listText (u ∷ us) = decimalOf u ++ tailText us
 
 -- ── the buffer ──
--- a buffer whose first bytes are still to be written out
+-- a buffer whose first bytes are still to be written out; its last byte is kept for a mark
 pub record Ready (at : ℕ) (out : List ℕ) : Type 0 where
-  pub ready-within : at ≤ length out
-  pub ready-some : 0 < length out
+  pub ready-within : at < length out
+  pub ready-some : 1 < length out
 
--- The text is put behind what the buffer holds. What went out on the way and what the buffer holds now are, in this order, what it held and the text.
+-- The text is put behind what the buffer holds. What was handed to standard output on the way and what the buffer holds now are, in this order, what
+-- it held and the text.
 pub record Tells (text out : List ℕ) (at : ℕ) (out′ : List ℕ) (r : ℕ) : Type 0 where
   pub ready : Ready r out′
   pub gone : List ℕ

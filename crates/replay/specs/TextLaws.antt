@@ -32,19 +32,26 @@ tells-then {t} {u} {o} {p} {q} {a} {b} {c} x y = record {
 pub tells-as : {t u o p : List ℕ} {a b : ℕ} → t ≡ u → Tells t o a p b → Tells u o a p b
 tells-as {t} {u} {o} {p} {a} {b} e x = record { ready = x .ready; gone = x .gone; told = ap (λ (l : List ℕ). take a o ++ l) (sym e) ∙ x .told }
 
--- a byte where there is room, and behind a buffer that was full and has gone out
-pub tells-stored : (o : List ℕ) (a b : ℕ) → a < length o → Tells (b ∷ []) o a (set o a b) (a + 1)
+-- a byte where there is room, and in front after all before it was handed over, the mark set or not
+pub tells-stored : (o : List ℕ) (a b : ℕ) → a < length o - 1 → Tells (b ∷ []) o a (set o a b) (a + 1)
 tells-stored o a b h = record {
   ready = record { ready-within = simp length-set (omega arith); ready-some = simp length-set (omega arith) };
   gone = [];
-  told = sym (rw (add-one a) (take-suc-set o a b h));
+  told = sym (rw (add-one a) (take-suc-set o a b (omega arith)));
 }
 
-pub tells-flushed : (o : List ℕ) (a b : ℕ) → 0 < length o → length o ≤ a → Tells (b ∷ []) o a (set o 0 b) 1
-tells-flushed o a b h k = record {
+pub tells-flushed : (o : List ℕ) (a b : ℕ) → 1 < length o → Tells (b ∷ []) o a (set o 0 b) 1
+tells-flushed o a b h = record {
   ready = record { ready-within = simp length-set (omega arith); ready-some = simp length-set (omega arith) };
-  gone = o;
-  told = rw (take-all a o k) (ap (λ (l : List ℕ). o ++ l) (sym (take-suc-set o 0 b h)));
+  gone = take a o;
+  told = ap (λ (l : List ℕ). take a o ++ l) (sym (take-suc-set o 0 b (omega arith)));
+}
+
+pub tells-marked : (o : List ℕ) (a b : ℕ) → 1 < length o → Tells (b ∷ []) o a (set (set o (length o - 1) 1) 0 b) 1
+tells-marked o a b h = record {
+  ready = record { ready-within = simp length-set (omega arith); ready-some = simp length-set (omega arith) };
+  gone = take a o;
+  told = ap (λ (l : List ℕ). take a o ++ l) (sym (take-suc-set (set o (length o - 1) 1) 0 b (simp length-set (omega arith))));
 }
 
 -- ── digits ──

@@ -3,15 +3,16 @@ ghost use mathlib.Core.Path.{_≡_};
 ghost use mathlib.Core.Bool.{_||_};
 ghost use Prim.Native.Nat.{_≤_};
 ghost use lib.Dec.{ltb};
-ghost use lib.ListN.{length};
-ghost use Rattle.replay.specs.Lines.{Unread, Appended, Pieced};
+ghost use lib.ListN.{length, take};
+ghost use Rattle.replay.specs.Lines.{Unread, Appended, Pieced, unreturned};
 use crate::fields::field_end;
 use libc::STDIN_FILENO;
 
-// The bytes of the chunk that are still to be read.
+// The bytes of the chunk that are still to be read, and whether reading has failed.
 pub struct Input {
     pub at: usize,
     pub end: usize,
+    pub failed: bool,
 }
 
 // A line as far as it was read: how many of its bytes are kept, and whether there were more. It is over at its end, or where the input ends.
@@ -27,11 +28,15 @@ impl Input {
     pub fn new() -> Input
         ensures { λ r. ⌜ (r .at ≡ 0) × (r .end ≡ 0) ⌝ }
     {
-        Input { at: 0, end: 0 }
+        Input {
+            at: 0,
+            end: 0,
+            failed: false,
+        }
     }
 }
 
-// A new chunk once all of the last one is read. At the end of the input there is none.
+// A new chunk once all of the last one is read. At the end of the input there is none, nor where it cannot be read.
 fn refill(input: Input, chunk: &mut [u8]) -> Input
     requires { ⌜ Unread (input .at) (input .end) (now chunk) ⌝ }
     ensures { λ r. ⌜ Unread (r .at) (r .end) (now (chunk .exit)) ⌝ }
@@ -41,7 +46,11 @@ fn refill(input: Input, chunk: &mut [u8]) -> Input
     }
     let got = libc::read(STDIN_FILENO, &mut *chunk);
     let n = io::count(got, &*chunk);
-    Input { at: 0, end: n }
+    Input {
+        at: 0,
+        end: n,
+        failed: got < 0,
+    }
 }
 
 // The part put behind the first bytes of the line, as far as there is room.
@@ -63,13 +72,27 @@ fn append(line: &mut [u8], n: usize, part: &[u8]) -> usize
 }
 
 // Fewer bytes were kept than there were, now or before.
-fn is_longer(before: bool, kept: usize, all: usize) -> bool
+pub fn is_longer(before: bool, kept: usize, all: usize) -> bool
     ensures { λ r. ⌜ r ≡ (before || ltb kept all) ⌝ }
 {
     if before {
         return true;
     }
     kept < all
+}
+
+// The first n bytes without a carriage return at their end.
+pub fn without_return(text: &[u8], n: usize) -> &[u8]
+    requires { ⌜ n ≤ length (now text) ⌝ }
+    ensures { λ r. ⌜ now r ≡ unreturned (take n (now (text .entry))) ⌝ }
+{
+    if n == 0 {
+        return &text[..n];
+    }
+    if text[n - 1] == 13 {
+        return &text[..n - 1];
+    }
+    &text[..n]
 }
 
 // The chunk's bytes up to the line's end or the chunk's.
@@ -90,6 +113,7 @@ fn take_piece(line: Line, chunk: &[u8], text: &mut [u8]) -> Line
             input: Input {
                 at: at + e + 1,
                 end: end,
+                failed: false,
             },
             length: m,
             long: long,
@@ -98,7 +122,11 @@ fn take_piece(line: Line, chunk: &[u8], text: &mut [u8]) -> Line
         };
     }
     Line {
-        input: Input { at: end, end: end },
+        input: Input {
+            at: end,
+            end: end,
+            failed: false,
+        },
         length: m,
         long: long,
         over: false,
@@ -106,7 +134,15 @@ fn take_piece(line: Line, chunk: &[u8], text: &mut [u8]) -> Line
     }
 }
 
-// One piece more of a line. Where the input ends, what there is of a line counts.
+// Nothing more comes: the input has ended, or cannot be read.
+fn is_ended(failed: bool, kept: usize) -> bool {
+    if failed {
+        return true;
+    }
+    kept == 0
+}
+
+// One piece more of a line. Where the input ends, what there is of a line counts; where it cannot be read, nothing does.
 fn gather(line: Line, chunk: &mut [u8], text: &mut [u8]) -> Line
     requires { ⌜ Unread (line .input .at) (line .input .end) (now chunk) × (line .length ≤ length (now text)) ⌝ }
     ensures { λ r. ⌜ Unread (r .input .at) (r .input .end) (now (chunk .exit)) × (r .length ≤ length (now (text .exit))) ⌝ }
@@ -128,7 +164,7 @@ fn gather(line: Line, chunk: &mut [u8], text: &mut [u8]) -> Line
         length: line.length,
         long: line.long,
         over: true,
-        ended: line.length == 0,
+        ended: is_ended(input.failed, line.length),
     }
 }
 

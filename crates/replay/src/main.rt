@@ -26,7 +26,7 @@ fn main() {
     let mut pages = [[0u64; 5]; 64];
     let mut universes = [0u16; 32768];
     let mut chunk = [0u8; 65536];
-    let mut text = [0u8; 8192];
+    let mut text = [0u8; 8193];
     let mut bytes = [0u8; 4096];
     let mut list = [0u16; 4096];
     let mut released = [0u8; 35072];

@@ -1,29 +1,41 @@
-// What is printed gathers in a lent buffer, which goes to standard output whenever it is full.
+// What is printed gathers in a lent buffer, which goes to standard output whenever it is full. The buffer's last byte is a mark: not 0 once a write has failed.
 ghost use mathlib.Core.Path.{_≡_};
 ghost use mathlib.Core.List.{[], _∷_};
-ghost use Prim.Native.Nat.{_≤_};
+ghost use Prim.Native.Nat.{_≤_, _<_};
 ghost use lib.ListN.{length};
 ghost use Rattle.replay.specs.Text.{decimalOf, signedOf, bitOf, hexText, cidText, byteText, tailText, listText, Ready, Tells};
 ghost use Rattle.io.specs.Digits.{glyph as Digits·glyph};
 use libc::STDOUT_FILENO;
 use rules::Cid;
 
-// The first bytes of the buffer go out.
-pub fn flush(out: &[u8], at: usize)
+// The first bytes of the buffer go out; answers whether all of them did.
+pub fn flush(out: &[u8], at: usize) -> bool
     requires { ⌜ at ≤ length (now out) ⌝ }
 {
-    io::write_all(STDOUT_FILENO, &out[..at]);
+    io::write_all(STDOUT_FILENO, &out[..at])
+}
+
+// Has a write failed on the way.
+pub fn has_failed(out: &[u8]) -> bool
+    requires { ⌜ 1 < length (now out) ⌝ }
+{
+    out[out.len() - 1] != 0
 }
 
 pub fn put(out: &mut [u8], at: usize, b: u8) -> usize
     requires { ⌜ Ready at (now out) ⌝ }
     ensures { λ r. ⌜ Tells (b ∷ []) (now (out .entry)) at (now (out .exit)) r ⌝ }
 {
-    if at < out.len() {
+    let last = out.len() - 1;
+    if at < last {
         out[at] = b;
         return at + 1;
     }
-    flush(&*out, at);
+    if flush(&*out, at) {
+        out[0] = b;
+        return 1;
+    }
+    out[last] = 1;
     out[0] = b;
     1
 }

@@ -5,7 +5,6 @@ ghost use Rattle.receiver.specs.View.{Memory, memory, stateOf};
 ghost use Rattle.replay.specs.Lines.{silent};
 ghost use Rattle.replay.specs.Text.{Ready};
 ghost use Rattle.replay.specs.Session.{refused, adjusted, dumped, carried, spoken, Fit, Carries, Runs};
-use crate::answers::front;
 use crate::calls::Session;
 use crate::calls::ask;
 use crate::calls::begin;
@@ -23,12 +22,19 @@ use crate::calls::step_sync;
 use crate::calls::sweep;
 use crate::dump::dump;
 use crate::lines::Input;
+use crate::lines::is_longer;
 use crate::lines::next_line;
+use crate::lines::without_return;
 use crate::parse::Command;
 use crate::parse::Setting;
 use crate::parse::parse_line;
 use crate::print::flush;
+use crate::print::has_failed;
 use crate::print::put_text;
+use libc::STDERR_FILENO;
+
+// The most bytes of a line, its end not counted.
+const MOST_LINE: usize = 8192;
 
 fn refuse(session: Session, out: &mut [u8]) -> Session
     requires { ⌜ Ready (session .at) (now out) ⌝ }
@@ -323,6 +329,8 @@ fn take_line(
             ended: true,
         };
     }
+    let kept = without_return(&*text, line.length);
+    let long = is_longer(line.long, MOST_LINE, kept.len());
     let after = carry_line(
         session,
         data_pairs,
@@ -336,8 +344,8 @@ fn take_line(
         names,
         pages,
         universes,
-        front(&*text, line.length),
-        line.long,
+        kept,
+        long,
         bytes,
         list,
         released,
@@ -346,7 +354,28 @@ fn take_line(
     Turn {
         session: after,
         input: next,
-        ended: false,
+        ended: has_failed(&*out),
+    }
+}
+
+// Was anything not written, before or now.
+fn is_lost(before: bool, written: bool) -> bool {
+    if before {
+        return true;
+    }
+    !written
+}
+
+// What could not be read or written is said on standard error.
+fn report(unread: bool, unwritten: bool) {
+    if unread {
+        io::write_all(STDERR_FILENO, b"replay: standard input could not be read\n");
+    }
+    if unwritten {
+        io::write_all(
+            STDERR_FILENO,
+            b"replay: standard output could not be written\n",
+        );
     }
 }
 
@@ -411,5 +440,9 @@ pub fn run(
         }
     }
     let last = t.session;
-    flush(&*out, last.at);
+    let input = t.input;
+    report(
+        input.failed,
+        is_lost(has_failed(&*out), flush(&*out, last.at)),
+    );
 }

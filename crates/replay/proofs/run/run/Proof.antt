@@ -56,49 +56,61 @@ loop-again-2 c =
     let c2 = c1 .before .before .before .before .before .before .before .before .before .before .before .before .before .before .before .before .before .before .before .before .before in
     let l = c2 .loop in let y = c1 .take-line in (omega (arith, y .kept .1 .1 .1 .1 .1 .1 .1 .0), omega (arith, y .kept .1 .1 .1 .1 .1 .1 .1 .1 .1 .1 .1 .1 .0), omega (arith, y .kept .1 .1 .1 .1 .1 .1 .1 .1 .1 .1 .1 .1 .1 .0), omega (arith, y .kept .1 .1 .1 .1 .1 .1 .1 .1 .1 .1 .1 .1 .1 .1 .0), omega (arith, y .kept .1 .1 .1 .1 .1 .1 .1 .1 .1 .1 .1 .1 .1 .1 .1 .0), omega (arith, y .kept .1 .1 .1 .1 .1 .1 .1 .1 .1 .1 .1 .1 .1 .1 .1 .1 .0), omega (arith, y .kept .1 .1 .1 .1 .1 .1 .1 .1 .1 .1 .1 .1 .1 .1 .1 .1 .1 .0), omega (arith, y .kept .1 .1 .1 .1 .1 .1 .1 .1 .1 .1 .1 .1 .1 .1 .1 .1 .1 .1 .0), y .ensures)
 
+has-failed-requires : tie.Need-has-failed-requires Inv-loop μ-loop
+has-failed-requires c κs =
+    let c1 = c .before .before .before .before in
+    c1 .loop .inv .8 .ready .ready-some
+
 flush-requires : tie.Need-flush-requires Inv-loop μ-loop
 flush-requires c κs =
-    let c1 = c .before .before .before in
-    c1 .loop .inv .8 .ready .ready-within
+    let c1 = c .before .before .before .before .before .before in
+    let h = c1 .loop .inv .8 .ready .ready-within in
+    omega (arith, h)
+
+is-lost-requires : tie.Need-is-lost-requires Inv-loop μ-loop
+is-lost-requires c κs = search needs
+
+report-requires : tie.Need-report-requires Inv-loop μ-loop
+report-requires c κs = search needs
 
 same-length : tie.Need-same-length Inv-loop μ-loop
 same-length c =
-    let c1 = c .before .before .before .before in
+    let c1 = c .before .before .before .before .before .before .before .before .before in
     c1 .loop .inv .0
 
 same-length-2 : tie.Need-same-length-2 Inv-loop μ-loop
 same-length-2 c =
-    let c1 = c .before .before .before .before in
+    let c1 = c .before .before .before .before .before .before .before .before .before in
     c1 .loop .inv .1
 
 same-length-3 : tie.Need-same-length-3 Inv-loop μ-loop
 same-length-3 c =
-    let c1 = c .before .before .before .before in
+    let c1 = c .before .before .before .before .before .before .before .before .before in
     c1 .loop .inv .2
 
 same-length-4 : tie.Need-same-length-4 Inv-loop μ-loop
 same-length-4 c =
-    let c1 = c .before .before .before .before in
+    let c1 = c .before .before .before .before .before .before .before .before .before in
     c1 .loop .inv .3
 
 same-length-5 : tie.Need-same-length-5 Inv-loop μ-loop
 same-length-5 c =
-    let c1 = c .before .before .before .before in
+    let c1 = c .before .before .before .before .before .before .before .before .before in
     c1 .loop .inv .4
 
 same-length-6 : tie.Need-same-length-6 Inv-loop μ-loop
 same-length-6 c =
-    let c1 = c .before .before .before .before in
+    let c1 = c .before .before .before .before .before .before .before .before .before in
     c1 .loop .inv .5
 
 same-length-7 : tie.Need-same-length-7 Inv-loop μ-loop
 same-length-7 c =
-    let c1 = c .before .before .before .before in
+    let c1 = c .before .before .before .before .before .before .before .before .before in
     c1 .loop .inv .6
 
 same-length-8 : tie.Need-same-length-8 Inv-loop μ-loop
 same-length-8 c =
-    let c1 = c .before .before .before .before in
+    let c1 = c .before .before .before .before .before .before .before .before .before in
     c1 .loop .inv .7
 
 returns : tie.Need-returns Inv-loop μ-loop
@@ -118,7 +130,10 @@ run-spec =
     sub-lines
     loop-less-2
     loop-again-2
+    has-failed-requires
     flush-requires
+    is-lost-requires
+    report-requires
     same-length
     same-length-2
     same-length-3
