@@ -24,6 +24,8 @@ fn main() -> io::Result<()> {
         lines.pop();
     }
     for line in lines {
+        // A line may end in carriage return and line feed.
+        let line = line.strip_suffix(b"\r").unwrap_or(line);
         if line.is_empty() || line[0] == b'#' {
             continue;
         }

@@ -1,6 +1,6 @@
 //! Random scripts through this crate and through the replay program of docs/REPLAY.md, and every answer compared.
 //!
-//! TAMBURELVI_REPLAY is the program with its arguments (default target/bin/replay in the root of the repository). Without it the test is skipped.
+//! TAMBURELVI_REPLAY is the program with its arguments (default target/bin/replay in the root of the repository, which `bindings/rust/run` builds). Without it the test fails.
 
 use std::fmt::Write as _;
 use std::io::Write as _;
@@ -395,23 +395,26 @@ fn run(seed: u64) -> Run {
     run
 }
 
-fn replay() -> Option<Command> {
+fn replay() -> Command {
     let root = PathBuf::from(env!("CARGO_MANIFEST_DIR")).join("../..");
     let words = std::env::var("TAMBURELVI_REPLAY").unwrap_or("target/bin/replay".into());
     let mut words = words.split(' ');
-    let program = root.join(words.next()?);
-    if !program.exists() {
-        return None;
-    }
+    let program = root.join(words.next().unwrap_or_default());
+    assert!(
+        program.is_file(),
+        "no replay program at {}: `rt check replay` builds it, or name one by TAMBURELVI_REPLAY",
+        program.display()
+    );
     let mut command = Command::new(program);
     command.args(words);
-    Some(command)
+    command
 }
 
 fn answers(mut program: Command, script: &str) -> String {
     let mut child = program
         .stdin(Stdio::piped())
         .stdout(Stdio::piped())
+        .stderr(Stdio::piped())
         .spawn()
         .expect("the replay program starts");
     let mut input = child.stdin.take().unwrap();
@@ -422,6 +425,9 @@ fn answers(mut program: Command, script: &str) -> String {
         .join()
         .unwrap()
         .expect("the replay program reads all");
+    // It says on standard error what it could not read or write.
+    assert_eq!(String::from_utf8_lossy(&output.stderr), "");
+    assert!(output.status.success(), "{}", output.status);
     String::from_utf8(output.stdout).expect("ASCII")
 }
 
@@ -430,12 +436,8 @@ fn the_same_answers_as_the_replay_program() {
     let (mut lines, mut dumps) = (0, 0);
     let mut numbers = [0; 17];
     for seed in 0..40 {
-        let Some(program) = replay() else {
-            println!("skipped: no replay program (TAMBURELVI_REPLAY, default target/bin/replay)");
-            return;
-        };
         let run = run(seed);
-        let theirs = answers(program, &run.script);
+        let theirs = answers(replay(), &run.script);
         let mut commands = run.script.lines();
         let mut command = commands.next();
         let mut theirs = theirs.lines();
