@@ -3,7 +3,6 @@
 use mathlib.Core.Path.{refl}
 use denote.Enum.Declared.{tagOf}
 use Rattle.space.proofs.Measured as measures
-use Rattle.waiting.specs.Entries.{lent-none}
 use Rattle.receiver.specs.View.{with-held}
 use Rattle.receiver.specs.Laws.{short-of, not-short, room-for}
 use Rattle.receiver.specs.Further.{does-clear-short, does-clear}
@@ -23,7 +22,7 @@ same-length c = search needs
 returns : tie.Need-returns
 returns c =
     let v = c .before .before .before .before .before .before .args in
-    (λ m. does-clear-short (v .universe) (v .self) (with-held (v .rows .now) (v .store .now) m) (c .before .needed .given .0 .0) (short-of _ _ _ (c .before .before .before .test-waiting-store .ensures) (c .before .needed .given .1)), lent-none (v .rows .now) (v .store .now))
+    λ m. does-clear-short (v .universe) (v .self) (with-held (v .rows .now) (v .store .now) m) (c .before .needed .given .0 .0) (short-of _ _ _ (c .before .before .before .test-waiting-store .ensures) (c .before .needed .given .1))
 
 clear-waiting-data-requires : tie.Need-clear-waiting-data-requires
 clear-waiting-data-requires c κs =
@@ -36,11 +35,9 @@ same-length-2 c = search needs
 returns-2 : tie.Need-returns-2
 returns-2 c =
     let d = c .before .before .before in
-    let v = c .before .before .before .before .before .before .before .before .before .before .before .before .before .before .args in (
-      λ m. does-clear (v .universe) (v .self) (with-held (v .rows .now) (v .store .now) m)
-          (d .clear-waiting-data .result .waiting) (d .clear-waiting-data .last .1 .0) (d .clear-waiting-data .last .1 .1 .0) (d .clear-waiting-data .result .held) (not-short (tagOf measures.the-type) (λ n. refl) _ _ (c .before .before .before .before .before .before .before .before .before .before .before .test-waiting-store .ensures) (c .before .before .before .before .before .before .before .before .before .before .match .keys2)) (d .clear-waiting-data .ensures .0) (d .clear-waiting-data .ensures .1),
-      d .clear-waiting-data .ensures .0 .lent,
-    )
+    let v = c .before .before .before .before .before .before .before .before .before .before .before .before .before .before .args in
+    λ m. does-clear (v .universe) (v .self) (with-held (v .rows .now) (v .store .now) m)
+    (d .clear-waiting-data .result .waiting) (d .clear-waiting-data .last .1 .0) (d .clear-waiting-data .last .1 .1 .0) (d .clear-waiting-data .result .held) (not-short (tagOf measures.the-type) (λ n. refl) _ _ (c .before .before .before .before .before .before .before .before .before .before .before .test-waiting-store .ensures) (c .before .before .before .before .before .before .before .before .before .before .match .keys2)) (d .clear-waiting-data .ensures .0) (d .clear-waiting-data .ensures .1)
 
 pub clear-waiting-data-spec : {M : Type 1} → statement M
 clear-waiting-data-spec =
