@@ -171,6 +171,7 @@ pub record Asked (S : Settings) (told-north told-south : List Telling) (places :
   pub north-space : (i : ℕ) → i < length north → too-short (lent-north i) ≡ none
   pub south-space : (i : ℕ) → i < length south → too-short (lent-south i) ≡ none
   -- "Every universe and non-zero address in data and synchronisation packets is listened to from the start."
+  -- The proof uses each of the three; no lists are known on which one of them alone decides
   pub universe-heard : (i now : ℕ) (d : DataPacket) → DataAt north i now d → listens (d .universe) (start told-north .listened) ≡ true
   pub address-heard : (i now : ℕ) (d : DataPacket) → DataAt north i now d → d .address ≢ 0 → listens (d .address) (start told-north .listened) ≡ true
   pub sync-heard : (i now : ℕ) (y : SyncPacket) → SyncAt north i now y → y .address ≢ 0 → listens (y .address) (start told-north .listened) ≡ true

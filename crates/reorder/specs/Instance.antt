@@ -222,16 +222,15 @@ enough : too-short (lent 0) ≡ none
 unfolding too-short
 enough = refl
 
--- none of the answers is one of 10 to 13
+-- all answers have the number 0, so none is one of 10 to 13
 unmap : {A B : Type 0} (f : A → B) (Q : B → Type 0) (xs : List A) → All Q (map f xs) → All (λ x. Q (f x)) xs
 unmap f Q [] a = tt
 unmap f Q (x ∷ xs) a = (a .0, unmap f Q xs (a .1))
 
-fine : (rs : List Answered) → map (λ (a : Answered). a .number) rs ≡ 0 ∷ 0 ∷ 0 ∷ 0 ∷ [] → NoneFull rs
-fine rs e i a h r =
-    let z = each (λ (x : Answered). x .number ≡ 0) rs
-    (unmap (λ (x : Answered). x .number) (λ n. n ≡ 0) rs (subst (All (λ n. n ≡ 0)) (sym e) (refl, (refl, (refl, (refl, tt)))))) i a h in
-    omega (arith, r .0)
+none-stopped : (rs : List Answered) → map (λ (a : Answered). a .number) rs ≡ 0 ∷ 0 ∷ 0 ∷ 0 ∷ [] → (i : ℕ) (a : Answered) → At rs i a → a .number ≡ 0
+none-stopped rs e =
+    each (λ (x : Answered). x .number ≡ 0) rs
+    (unmap (λ (x : Answered). x .number) (λ n. n ≡ 0) rs (subst (All (λ n. n ≡ 0)) (sym e) (refl, (refl, (refl, (refl, tt))))))
 
 north-numbers : map (λ (a : Answered). a .number) (answers S lent 0 (start told-north) north) ≡ 0 ∷ 0 ∷ 0 ∷ 0 ∷ []
 unfolding answers model.step too-short model.measured too-long over model.polled model.poll model.poll-sync model.poll-waiting pairs.sweep pairs.swept model.packet-step model.data-step model.data-arrival pairs.check pairs.after-sweep pairs.admit pairs.stop pairs.source-stop pairs.listed pairs.full pairs.sequence-stop pairs.settle pairs.recorded model.if-accepted model.accepted model.unsynchronised model.synchronised model.heard model.stored model.release model.sync-step model.sync-arrival model.synchronise waiting.cleared waiting.stored waiting.joining waiting.merged waiting.released waiting.left same-start mergeable highest blended joined htp-merge model.discovery-step discovery.arrived discovery.taken discovery.noted discovery.noting discovery.lookup discovery.drop-source discovery.relisted discovery.begun discovery.page-count tell listen-call model.listen-all model.illegal model.joined-by find store remove keep any before-by
@@ -264,8 +263,8 @@ asked = record {
 
 fits : NeitherFull (answers S lent 0 (start told-north) north) (answers S lent 0 (start told-south) south)
 fits = record {
-  north-fits = fine (answers S lent 0 (start told-north) north) north-numbers;
-  south-fits = fine (answers S lent 0 (start told-south) south) south-numbers;
+  north-fits = λ i a h r. let z = none-stopped (answers S lent 0 (start told-north) north) north-numbers i a h in omega (arith, r .0);
+  south-fits = λ i a h r. let z = none-stopped (answers S lent 0 (start told-south) south) south-numbers i a h in omega (arith, r .0);
 }
 
 -- so the theorem speaks of them
