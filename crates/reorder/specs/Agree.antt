@@ -195,6 +195,16 @@ sync-refused : (now : ℕ) (y : SyncPacket) (s : State) (o : Option Pair) (a : C
     → out (sync-after now y s (s .sync-pairs, a)) ≡ (s, say (model.stopped a))
 sync-refused now y s o a e = refusal (λ x. out (sync-after now y s (s .sync-pairs, x)) ≡ (s, say (model.stopped x))) (y .sequence) o a e (λ x y z. unfold sync-after model.if-accepted in refl)
 
+-- ── a synchronisation packet of address 0 ──
+-- it is not taken, since 0 is illegal and so never listened to
+pub no-zero : (L : List ℕ) → Heard L → listens 0 L ≡ false
+no-zero L H = split (listens 0 L) (λ h. clash (H .all-legal 0 h) refl) (λ h. h)
+
+pub zero-not-taken : (S : Settings) (now : ℕ) (y : SyncPacket) (s : State) → Heard (s .listened) → y .address ≡ 0
+    → model.sync-step S now y s ≡ outcome s says.Nothing
+unfolding model.sync-step
+zero-not-taken S now y s H z = rw (z, no-zero (s .listened) H)
+
 module _ (address-of first-of : ℕ → ℕ) (S : Settings) (L : List ℕ) (off : S .«announce_timeout» ≡ false) (highest : S .merge ≡ HtpDmxMerge) (H : Heard L) (now : ℕ) where
   -- an accepted data packet: released, or stored
   module _ (d : DataPacket) (s : State) (l : s .listened ≡ L) where
@@ -328,16 +338,16 @@ module _ (address-of first-of : ℕ → ℕ) (S : Settings) (L : List ℕ) (off 
         ∙ ap (λ (u : State). (u, say (model.stopped a))) (sym (apply-only (model.stopped a) s))
         ∙ ap (λ (x : Option Checked). done (unless x (syncing now y taken)) s) (sym q))
 
-    pub sync-agree : listens 0 L ≡ false → (eqb (y .address) 0 ≡ false → listens (y .address) L ≡ true)
+    pub sync-agree : (eqb (y .address) 0 ≡ false → listens (y .address) L ≡ true)
         → capped (model.sync-step S now y s .answer) ≡ false
         → out (model.sync-step S now y s)
         ≡ done (sync-effect now y (pairAt (key (y .cid) (y .address)) (s .sync-pairs .pairs)) (waiting.released now (y .address) (s .waiting))) s
     unfolding model.sync-step sync-effect sync-o taken
-    sync-agree z h n =
+    sync-agree h n =
         split (eqb (y .address) 0)
         (λ b.
-        let v : listens (y .address) (s .listened) ≡ false = subst (λ (x : List ℕ). listens (y .address) x ≡ false) (sym l) (subst (λ (a : ℕ). listens a L ≡ false) (sym (eqb-true (y .address) 0 b)) z) in
-        rw (b, v) (ap (λ (x : State). (x, say says.Nothing)) (sym (apply-only says.Nothing s))))
+        ap out (zero-not-taken S now y s (subst Heard (sym l) H) (eqb-true (y .address) 0 b))
+        ∙ (rw b (ap (λ (x : State). (x, say says.Nothing)) (sym (apply-only says.Nothing s)))))
         (λ b.
         let v : listens (y .address) (s .listened) ≡ true = subst (λ (x : List ℕ). listens (y .address) x ≡ true) (sym l) (h b) in
         rw (b, v) (sync-arrival-agree (rw v at n)))

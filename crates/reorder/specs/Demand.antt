@@ -60,18 +60,19 @@ pub record MovedPast (places : List ℕ) (i j : ℕ) : Type 0 where
   pub second : At places l i
 
 -- "A packet is of an address if it is a synchronisation packet for it or a data packet that carries it":
--- neither is a synchronisation packet of the other's address
+-- neither is a synchronisation packet of the other's address. A synchronisation packet of address 0 may be moved past every packet: that asks less,
+-- so the theorem holds whether or not 0 is taken for an address
 abbrev pub Free : Packet → Packet → Type 0
 Free (data-packet d) (data-packet e) = Unit {0}
-Free (data-packet d) (sync-packet y) = d .address ≢ y .address
+Free (data-packet d) (sync-packet y) = y .address ≢ 0 → d .address ≢ y .address
 Free (data-packet d) (discovery-packet a) = Unit {0}
-Free (sync-packet y) (data-packet d) = d .address ≢ y .address
-Free (sync-packet y) (sync-packet z) = y .address ≢ z .address
+Free (sync-packet y) (data-packet d) = y .address ≢ 0 → d .address ≢ y .address
+Free (sync-packet y) (sync-packet z) = y .address ≢ 0 → y .address ≢ z .address
 Free (sync-packet y) (discovery-packet a) = Unit {0}
 Free (discovery-packet a) b = Unit {0}
 
 -- ── the two runs ──
--- "with the same settings and listened universes": what a fresh receiver is told before the run
+-- "listened universes": what a fresh receiver is told before its run
 pub data Telling : Type 0 where
   listen : List ℕ → Telling
   mute : ℕ → Telling
@@ -147,8 +148,12 @@ InLimit (AtMost m) cs = length cs ≤ m
 abbrev pub NoneFull : List Answered → Type 0
 NoneFull rs = (i : ℕ) (a : Answered) → At rs i a → (10 ≤ a .number) × (a .number ≤ 13) → ⊥
 
-pub record Asked (S : Settings) (ts : List Telling) (places : List ℕ) (north south : List Timed) (lent-north lent-south : ℕ → Space) : Type 0 where
+-- "one settings record for every step": S serves both runs; each receiver has its own list of tellings
+pub record Asked (S : Settings) (told-north told-south : List Telling) (places : List ℕ) (north south : List Timed)
+    (lent-north lent-south : ℕ → Space) : Type 0 where
   pub reordering : Reordering places north south
+  -- "each from a fresh receiver, with the same settings and listened universes"
+  pub alike-told : start told-north .listened ≡ start told-south .listened
   -- "The reordering keeps each source's own order"
   pub own-order : (i j : ℕ) (p q : Timed) → MovedPast places i j → At north i p → At north j q → sender (p .packet) ≢ sender (q .packet)
   -- "and moves no synchronisation packet past another packet of its address"
@@ -165,13 +170,11 @@ pub record Asked (S : Settings) (ts : List Telling) (places : List ℕ) (north s
   -- "enough lent space": "Lent space is enough if no rule for 15 applies."
   pub north-space : (i : ℕ) → i < length north → too-short (lent-north i) ≡ none
   pub south-space : (i : ℕ) → i < length south → too-short (lent-south i) ≡ none
-  -- "and neither run gives 10 to 13"
-  pub north-fits : NoneFull (answers S lent-north 0 (start ts) north)
-  pub south-fits : NoneFull (answers S lent-south 0 (start ts) south)
   -- "Every universe and non-zero address in data and synchronisation packets is listened to from the start."
-  pub universe-heard : (i now : ℕ) (d : DataPacket) → DataAt north i now d → listens (d .universe) (start ts .listened) ≡ true
-  pub address-heard : (i now : ℕ) (d : DataPacket) → DataAt north i now d → d .address ≢ 0 → listens (d .address) (start ts .listened) ≡ true
-  pub sync-heard : (i now : ℕ) (y : SyncPacket) → SyncAt north i now y → y .address ≢ 0 → listens (y .address) (start ts .listened) ≡ true
+  -- The proof uses each of the three; no lists are known on which one of them alone decides
+  pub universe-heard : (i now : ℕ) (d : DataPacket) → DataAt north i now d → listens (d .universe) (start told-north .listened) ≡ true
+  pub address-heard : (i now : ℕ) (d : DataPacket) → DataAt north i now d → d .address ≢ 0 → listens (d .address) (start told-north .listened) ≡ true
+  pub sync-heard : (i now : ℕ) (y : SyncPacket) → SyncAt north i now y → y .address ≢ 0 → listens (y .address) (start told-north .listened) ≡ true
   -- "A universe's data are all unsynchronised, or all under one address" ("Unsynchronised: address 0.")
   pub one-address : (i j now then : ℕ) (d e : DataPacket) → DataAt north i now d → DataAt north j then e → d .universe ≡ e .universe → d .address ≡ e .address
   -- "never empty"
@@ -179,6 +182,12 @@ pub record Asked (S : Settings) (ts : List Telling) (places : List ℕ) (north s
   -- "and alike in their first value"
   pub one-first : (i j now then : ℕ) (d e : DataPacket) → DataAt north i now d → DataAt north j then e → d .universe ≡ e .universe
       → getElem? (d .values) 0 ≡ getElem? (e .values) 0
+
+-- One premise stands apart from `Asked`, since it is asked of answers: of the definition's in `Demand-3`, of those that the caller sees in the crate `runs`
+pub record NeitherFull (north south : List Answered) : Type 0 where
+  -- "and neither run gives 10 to 13"
+  pub north-fits : NoneFull north
+  pub south-fits : NoneFull south
 
 -- ── what follows ──
 -- "both end with equal sequence records, waiting data and listened universes, and equal discovery records source by source"
@@ -193,14 +202,16 @@ pub record EndAlike (s t : State) : Type 0 where
   pub same-partial : (c : Cid) → lookup c (s .discovered .partial) ≡ lookup c (t .discovered .partial)
   pub same-listed : (c : Cid) → lookup c (s .discovered .listed) ≡ lookup c (t .discovered .listed)
 
-pub record Agreed (S : Settings) (ts : List Telling) (places : List ℕ) (north south : List Timed) (lent-north lent-south : ℕ → Space) : Type 0 where
+pub record Agreed (S : Settings) (told-north told-south : List Telling) (places : List ℕ) (north south : List Timed)
+    (lent-north lent-south : ℕ → Space) : Type 0 where
   -- "Then each packet has the same answer and released bytes in North and South": South's answer number k is North's number places[k]
-  pub same-answers : Picks places (answers S lent-north 0 (start ts) north) (answers S lent-south 0 (start ts) south)
-  pub same-end : EndAlike (end S lent-south 0 (start ts) south) (end S lent-north 0 (start ts) north)
+  pub same-answers : Picks places (answers S lent-north 0 (start told-north) north) (answers S lent-south 0 (start told-south) south)
+  pub same-end : EndAlike (end S lent-south 0 (start told-south) south) (end S lent-north 0 (start told-north) north)
 
 -- "This is one claim about the two lists, not one for each step."
 abbrev pub Demand-3 : Type 0
 Demand-3 =
-    (S : Settings) (ts : List Telling) (places : List ℕ) (north south : List Timed) (lent-north lent-south : ℕ → Space)
-    → Asked S ts places north south lent-north lent-south
-    → Agreed S ts places north south lent-north lent-south
+    (S : Settings) (told-north told-south : List Telling) (places : List ℕ) (north south : List Timed) (lent-north lent-south : ℕ → Space)
+    → Asked S told-north told-south places north south lent-north lent-south
+    → NeitherFull (answers S lent-north 0 (start told-north) north) (answers S lent-south 0 (start told-south) south)
+    → Agreed S told-north told-south places north south lent-north lent-south

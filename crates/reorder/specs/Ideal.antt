@@ -269,7 +269,7 @@ module _ (address-of first-of : ℕ → ℕ) (S : Settings) where
   Possible now (data-packet d) (release a) = ⊥
   Possible now (sync-packet y) (wait p) = ⊥
   Possible now (sync-packet y) (clear u) = ⊥
-  Possible now (sync-packet y) (release a) = a ≡ y .address
+  Possible now (sync-packet y) (release a) = (a ≡ y .address) × (y .address ≢ 0)
   Possible now (discovery-packet x) (wait p) = ⊥
   Possible now (discovery-packet x) (clear u) = ⊥
   Possible now (discovery-packet x) (release a) = ⊥
@@ -347,8 +347,9 @@ module _ (address-of first-of : ℕ → ℕ) (S : Settings) where
       (λ a. sound-only now _ a)))
   sound now (sync-packet y) s f =
       let P = Sound now (sync-packet y) in
-      either P (eqb (y .address) 0) _ _ (sound-only now _ _)
-      (unless-either P (sequence-stop (y .sequence) _) _
+      split (eqb (y .address) 0)
+      (λ h. rw h (sound-only now _ _))
+      (λ h. rw h (unless-either P (sequence-stop (y .sequence) _) _
       (record {
         local-data = tt;
         local-sync = refl;
@@ -357,9 +358,9 @@ module _ (address-of first-of : ℕ → ℕ) (S : Settings) where
         fresh-sync = live-stored (model.sync-pair now y);
         fresh-move = tt;
         fits-move = tt;
-        possible = refl;
+        possible = (refl, eqb-false (y .address) 0 h);
       })
-      (λ a. sound-only now _ a))
+      (λ a. sound-only now _ a)))
   sound now (discovery-packet a) s f =
       record {
         local-data = tt;
@@ -379,7 +380,7 @@ module _ (address-of first-of : ℕ → ℕ) (S : Settings) where
   apart now (data-packet d) (data-packet e) (wait l) (wait k) f p q = p .1 ∙ sym (q .1)
   apart now (data-packet d) (data-packet e) (wait l) (release a) f p q = absurd q
   apart now (data-packet d) (sync-packet y) (wait l) (wait k) f p q = absurd q
-  apart now (data-packet d) (sync-packet y) (wait l) (release a) f p q = λ h. f (sym (p .0) ∙ h ∙ q)
+  apart now (data-packet d) (sync-packet y) (wait l) (release a) f p q = λ h. f (q .1) (sym (p .0) ∙ h ∙ q .0)
   apart now (data-packet d) (discovery-packet y) (wait l) (wait k) f p q = absurd q
   apart now (data-packet d) (discovery-packet y) (wait l) (release a) f p q = absurd q
   apart now (data-packet d) c (clear u) n f p q = tt
@@ -388,10 +389,10 @@ module _ (address-of first-of : ℕ → ℕ) (S : Settings) where
   apart now (sync-packet y) c (clear u) n f p q = absurd p
   apart now (sync-packet y) c (release a) rest f p q = tt
   apart now (sync-packet y) c (release a) (clear u) f p q = tt
-  apart now (sync-packet y) (data-packet d) (release a) (wait l) f p q = λ h. f (sym (q .0) ∙ h ∙ p)
+  apart now (sync-packet y) (data-packet d) (release a) (wait l) f p q = λ h. f (p .1) (sym (q .0) ∙ h ∙ p .0)
   apart now (sync-packet y) (data-packet d) (release a) (release b) f p q = absurd q
   apart now (sync-packet y) (sync-packet z) (release a) (wait l) f p q = absurd q
-  apart now (sync-packet y) (sync-packet z) (release a) (release b) f p q = λ h. f (sym p ∙ h ∙ q)
+  apart now (sync-packet y) (sync-packet z) (release a) (release b) f p q = λ h. f (p .1) (sym (p .0) ∙ h ∙ q .0)
   apart now (sync-packet y) (discovery-packet z) (release a) (wait l) f p q = absurd q
   apart now (sync-packet y) (discovery-packet z) (release a) (release b) f p q = absurd q
   apart now (discovery-packet a) c (wait l) n f p q = absurd p
@@ -401,14 +402,17 @@ module _ (address-of first-of : ℕ → ℕ) (S : Settings) where
   -- what a packet does is not changed by an independent one before it
   effect-same : (now : ℕ) (b c : Packet) (e : Effect) (s : State) → Good s → Sound now c e → sender b ≢ sender c → Free b c
       → effect S now b (apply e s) ≡ effect S now b s
-  unfolding effect apply
+  unfolding effect sync-effect apply
   effect-same now (data-packet d) c e s g k n f =
       ap (data-effect S now d) (find-change (key (d .cid) (d .universe)) (d .cid) (sender c) (e .to-data) (s .data-pairs) (g .good-data) refl (k .local-data) n)
   effect-same now (sync-packet y) c e s g k n f =
+      split (eqb (y .address) 0)
+      (λ h. rw h)
+      (λ h.
       let x = find-change (key (y .cid) (y .address)) (y .cid) (sender c) (e .to-sync) (s .sync-pairs) (g .good-sync) refl (k .local-sync) n in
       let z = released-move address-of first-of now (y .address) (e .to-waiting) (s .waiting) (g .good-waiting) (k .fits-move)
-      (apart now (sync-packet y) c (release (y .address)) (e .to-waiting) f refl (k .possible)) in
-      rw (x, z)
+      (apart now (sync-packet y) c (release (y .address)) (e .to-waiting) f (refl, eqb-false (y .address) 0 h) (k .possible)) in
+      rw (x, z))
   effect-same now (discovery-packet a) c e s g k n f =
       ap (λ (o : Option Source). discovery-effect S (noted now a o)) (learn-other (e .to-discovered) (a .cid) (sender c) (s .discovered) (k .concerns) n)
 
@@ -461,7 +465,7 @@ module _ (address-of first-of : ℕ → ℕ) (S : Settings) where
   free-sym (data-packet d) (sync-packet e) f = f
   free-sym (data-packet d) (discovery-packet e) f = tt
   free-sym (sync-packet d) (data-packet e) f = f
-  free-sym (sync-packet d) (sync-packet e) f = λ h. f (sym h)
+  free-sym (sync-packet d) (sync-packet e) f = λ n h. f (λ z. n (h ∙ z)) (sym h)
   free-sym (sync-packet d) (discovery-packet e) f = tt
   free-sym (discovery-packet d) (data-packet e) f = tt
   free-sym (discovery-packet d) (sync-packet e) f = tt

@@ -27,8 +27,8 @@ use Rattle.model.specs.Packet.{DataPacket, SyncPacket, Packet, data-packet, syn
 use Rattle.model.specs.State.{State, fresh, listens}
 use Rattle.model.specs.Step as model
 use Rattle.model.specs.Step.{Space, too-short}
-use Rattle.model.specs.Calls.{listen-call}
-use Rattle.reorder.specs.Demand.{Timed, At, count, Picks, Reordering, MovedPast, Free, Telling, listen, mute, tell, start, Answered, end, answers, DataAt, SyncAt, NeverFalls, counted, sources-of, InLimit, NoneFull, Asked, Agreed}
+use Rattle.model.specs.Calls.{listen-call, muted, mute-call}
+use Rattle.reorder.specs.Demand.{Timed, At, count, Picks, Reordering, MovedPast, Free, Telling, listen, mute, tell, start, Answered, end, answers, DataAt, SyncAt, NeverFalls, counted, sources-of, InLimit, NoneFull, Asked, NeitherFull, Agreed}
 use Rattle.reorder.specs.Reorder.{All}
 use Rattle.reorder.specs.Proof.{demand-3}
 
@@ -88,8 +88,12 @@ places = 1 ∷ 3 ∷ 0 ∷ 2 ∷ []
 abbrev S : Settings
 S = withLimit (AtMost 2) (withMerge HtpDmxMerge settings.fresh)
 
-abbrev ts : List Telling
-ts = listen (1 ∷ 7 ∷ []) ∷ []
+-- South is told otherwise, and listens to the same universes
+abbrev told-north : List Telling
+told-north = listen (1 ∷ 7 ∷ []) ∷ []
+
+abbrev told-south : List Telling
+told-south = listen (7 ∷ 5 ∷ []) ∷ mute 5 ∷ listen (1 ∷ []) ∷ []
 
 abbrev lent : ℕ → Space
 lent i = record { output = 35072; waiting-values = 32832; page-universes = 65536 }
@@ -97,7 +101,7 @@ lent i = record { output = 35072; waiting-values = 32832; page-universes = 65536
 -- ── the premises ──
 reordered : Reordering places north south
 unfolding count
-reordered = record { picks = refl; once = once }
+reordered = record { picks = refl; once = λ i h. let e = once i h in omega arith }
   where
     once : (i : ℕ) → i < 4 → count i places ≡ 1
     once zero h = refl
@@ -197,12 +201,16 @@ syncs i t y a = each IsSync north (other-data, (other-data, (the-sync, (other-pa
     other-page : {d : Announcement} → IsSync (now (discovery-packet d))
     other-page t x e = let z : _≡_ {A = ℕ} 0 1 = cc (ap (λ (p : Timed). p .packet) e) in absurd (omega arith)
 
+alike : start told-north .listened ≡ start told-south .listened
+unfolding tell listen-call muted mute-call model.listen-all model.illegal model.joined-by find store remove
+alike = refl
+
 -- 1 and 7 are listened to
-hears-1 : listens 1 (start ts .listened) ≡ true
+hears-1 : listens 1 (start told-north .listened) ≡ true
 unfolding tell listen-call model.listen-all model.illegal model.joined-by find store
 hears-1 = refl
 
-hears-7 : listens 7 (start ts .listened) ≡ true
+hears-7 : listens 7 (start told-north .listened) ≡ true
 unfolding tell listen-call model.listen-all model.illegal model.joined-by find store
 hears-7 = refl
 
@@ -214,49 +222,51 @@ enough : too-short (lent 0) ≡ none
 unfolding too-short
 enough = refl
 
--- none of the answers is one of 10 to 13
+-- all answers have the number 0, so none is one of 10 to 13
 unmap : {A B : Type 0} (f : A → B) (Q : B → Type 0) (xs : List A) → All Q (map f xs) → All (λ x. Q (f x)) xs
 unmap f Q [] a = tt
 unmap f Q (x ∷ xs) a = (a .0, unmap f Q xs (a .1))
 
-fine : (rs : List Answered) → map (λ (a : Answered). a .number) rs ≡ 0 ∷ 0 ∷ 0 ∷ 0 ∷ [] → NoneFull rs
-fine rs e =
-    each (λ (x : Answered). (10 ≤ x .number) × (x .number ≤ 13) → ⊥) rs
-    (unmap (λ (a : Answered). a .number) (λ n. (10 ≤ n) × (n ≤ 13) → ⊥) rs (subst (All (λ n. (10 ≤ n) × (n ≤ 13) → ⊥)) (sym e) (small, (small, (small, (small, tt))))))
-  where
-    small : (10 ≤ 0) × (0 ≤ 13) → ⊥
-    small r = omega (arith, r .0)
+none-stopped : (rs : List Answered) → map (λ (a : Answered). a .number) rs ≡ 0 ∷ 0 ∷ 0 ∷ 0 ∷ [] → (i : ℕ) (a : Answered) → At rs i a → a .number ≡ 0
+none-stopped rs e =
+    each (λ (x : Answered). x .number ≡ 0) rs
+    (unmap (λ (x : Answered). x .number) (λ n. n ≡ 0) rs (subst (All (λ n. n ≡ 0)) (sym e) (refl, (refl, (refl, (refl, tt))))))
 
-north-numbers : map (λ (a : Answered). a .number) (answers S lent 0 (start ts) north) ≡ 0 ∷ 0 ∷ 0 ∷ 0 ∷ []
+north-numbers : map (λ (a : Answered). a .number) (answers S lent 0 (start told-north) north) ≡ 0 ∷ 0 ∷ 0 ∷ 0 ∷ []
 unfolding answers model.step too-short model.measured too-long over model.polled model.poll model.poll-sync model.poll-waiting pairs.sweep pairs.swept model.packet-step model.data-step model.data-arrival pairs.check pairs.after-sweep pairs.admit pairs.stop pairs.source-stop pairs.listed pairs.full pairs.sequence-stop pairs.settle pairs.recorded model.if-accepted model.accepted model.unsynchronised model.synchronised model.heard model.stored model.release model.sync-step model.sync-arrival model.synchronise waiting.cleared waiting.stored waiting.joining waiting.merged waiting.released waiting.left same-start mergeable highest blended joined htp-merge model.discovery-step discovery.arrived discovery.taken discovery.noted discovery.noting discovery.lookup discovery.drop-source discovery.relisted discovery.begun discovery.page-count tell listen-call model.listen-all model.illegal model.joined-by find store remove keep any before-by
 north-numbers = refl
 
-south-numbers : map (λ (a : Answered). a .number) (answers S lent 0 (start ts) south) ≡ 0 ∷ 0 ∷ 0 ∷ 0 ∷ []
-unfolding answers model.step too-short model.measured too-long over model.polled model.poll model.poll-sync model.poll-waiting pairs.sweep pairs.swept model.packet-step model.data-step model.data-arrival pairs.check pairs.after-sweep pairs.admit pairs.stop pairs.source-stop pairs.listed pairs.full pairs.sequence-stop pairs.settle pairs.recorded model.if-accepted model.accepted model.unsynchronised model.synchronised model.heard model.stored model.release model.sync-step model.sync-arrival model.synchronise waiting.cleared waiting.stored waiting.joining waiting.merged waiting.released waiting.left same-start mergeable highest blended joined htp-merge model.discovery-step discovery.arrived discovery.taken discovery.noted discovery.noting discovery.lookup discovery.drop-source discovery.relisted discovery.begun discovery.page-count tell listen-call model.listen-all model.illegal model.joined-by find store remove keep any before-by
+south-numbers : map (λ (a : Answered). a .number) (answers S lent 0 (start told-south) south) ≡ 0 ∷ 0 ∷ 0 ∷ 0 ∷ []
+unfolding answers model.step too-short model.measured too-long over model.polled model.poll model.poll-sync model.poll-waiting pairs.sweep pairs.swept model.packet-step model.data-step model.data-arrival pairs.check pairs.after-sweep pairs.admit pairs.stop pairs.source-stop pairs.listed pairs.full pairs.sequence-stop pairs.settle pairs.recorded model.if-accepted model.accepted model.unsynchronised model.synchronised model.heard model.stored model.release model.sync-step model.sync-arrival model.synchronise waiting.cleared waiting.stored waiting.joining waiting.merged waiting.released waiting.left same-start mergeable highest blended joined htp-merge model.discovery-step discovery.arrived discovery.taken discovery.noted discovery.noting discovery.lookup discovery.drop-source discovery.relisted discovery.begun discovery.page-count tell listen-call muted mute-call model.listen-all model.illegal model.joined-by find store remove keep any before-by
 south-numbers = refl
 
-asked : Asked S ts places north south lent lent
+asked : Asked S told-north told-south places north south lent lent
 asked = record {
   reordering = reordered;
-  own-order = passed (λ p q. sender (p .packet) ≢ sender (q .packet)) own;
+  alike-told = let e = alike in cc;
+  own-order = λ i j p q m a b e. passed (λ p q. sender (p .packet) ≢ sender (q .packet)) own i j p q m a b (cc);
   address-order = passed (λ p q. Free (p .packet) (q .packet)) free;
   north-rises = λ k l p q o a b. let x = north-now k p a in let y = north-now l q b in omega arith;
   south-rises = λ k l p q o a b. let x = south-now k p a in let y = south-now l q b in omega arith;
   timeouts-off = refl;
   highest-value = refl;
-  in-limit = two-sources;
-  north-space = λ i h. enough;
-  south-space = λ i h. enough;
-  north-fits = fine (answers S lent 0 (start ts) north) north-numbers;
-  south-fits = fine (answers S lent 0 (start ts) south) south-numbers;
-  universe-heard = λ i t d a. subst (λ (u : ℕ). listens u (start ts .listened) ≡ true) (sym (desks i t d a .0)) hears-1;
-  address-heard = λ i t d a n. subst (λ (u : ℕ). listens u (start ts .listened) ≡ true) (sym (desks i t d a .1)) hears-7;
-  sync-heard = λ i t y a n. subst (λ (u : ℕ). listens u (start ts .listened) ≡ true) (sym (syncs i t y a)) hears-7;
-  one-address = λ i j t r d e a b q. desks i t d a .1 ∙ sym (desks j r e b .1);
+  in-limit = let h = two-sources in omega arith;
+  north-space = λ i h. let e = enough in cc;
+  south-space = λ i h. let e = enough in cc;
+  universe-heard = λ i t d a. let e = desks i t d a .0 in let h = hears-1 in cc;
+  address-heard = λ i t d a n. let e = desks i t d a .1 in let h = hears-7 in cc;
+  sync-heard = λ i t y a n. let e = syncs i t y a in let h = hears-7 in cc;
+  one-address = λ i j t r d e a b q. let x = desks i t d a .1 in let y = desks j r e b .1 in cc;
   not-empty = λ i t d a q. let h = desks i t d a .2 in let z : _≡_ {A = ℕ} 0 1 = cc in omega arith;
-  one-first = λ i j t r d e a b q. desks i t d a .2 ∙ sym (desks j r e b .2);
+  one-first = λ i j t r d e a b q. let x = desks i t d a .2 in let y = desks j r e b .2 in cc;
+}
+
+fits : NeitherFull (answers S lent 0 (start told-north) north) (answers S lent 0 (start told-south) south)
+fits = record {
+  north-fits = λ i a h r. let z = none-stopped (answers S lent 0 (start told-north) north) north-numbers i a h in omega (arith, r .0);
+  south-fits = λ i a h r. let z = none-stopped (answers S lent 0 (start told-south) south) south-numbers i a h in omega (arith, r .0);
 }
 
 -- so the theorem speaks of them
-pub worked : Agreed S ts places north south lent lent
-worked = demand-3 S ts places north south lent lent asked
+pub worked : Agreed S told-north told-south places north south lent lent
+worked = demand-3 S told-north told-south places north south lent lent asked fits

@@ -34,18 +34,15 @@ use Rattle.model.specs.Packet.{DataPacket, SyncPacket, Packet, data-packet, syn
 use Rattle.model.specs.State.{State, fresh, listens, there}
 use Rattle.model.specs.State as state
 use Rattle.model.specs.Step as model
-use Rattle.model.specs.Step.{Space, Outcome, too-short}
+use Rattle.model.specs.Step.{Space, Outcome, outcome, too-short}
 use Rattle.model.specs.Calls.{listen-call, mute-call}
 use Rattle.model.specs.Invariant.{Heard, listen-heard, mute-heard, heard-fresh}
-use Rattle.reorder.specs.Demand.{Timed, At, Picks, Reordering, MovedPast, Free, Telling, listen, mute, tell, start, nameOf, Answered, answered, outcome-of, end, answers, DataAt, SyncAt, counted, sources-of, InLimit, NoneFull, Asked, EndAlike, Agreed, Demand-3}
+use Rattle.reorder.specs.Demand.{Timed, At, Picks, Reordering, MovedPast, Free, Telling, listen, mute, tell, start, nameOf, Answered, answered, outcome-of, end, answers, DataAt, SyncAt, counted, sources-of, InLimit, NoneFull, Asked, NeitherFull, EndAlike, Agreed, Demand-3}
 use Rattle.reorder.specs.Reorder.{Commutes, All, at-all, guarded, passes, fails, guarded-commutes, as-ideal}
 use Rattle.reorder.specs.Reorder as reorder
 use Rattle.reorder.specs.Ideal.{Told, say, Effect, apply, effect, polled, step, Same, Good, Fits, FitsPacket, Indep, Sound, sound, good-apply, good-polled, polled-polled, commutes, change, Local, discovery-effect}
-use Rattle.reorder.specs.Agree.{out, done, capped, Room, data-agree, sync-agree, discovery-agree}
+use Rattle.reorder.specs.Agree.{out, done, capped, Room, zero-not-taken, data-agree, sync-agree, discovery-agree}
 use Rattle.reorder.specs.Limit.{In, Within, room, within-swept, within-change}
-
-none-some {ℓ} : {C : Type ℓ} {A : Type 0} {a : A} → none ≡ some a → C
-none-some e = let z : _≡_ {A = ℕ} 0 1 = cc in absurd (omega arith)
 
 -- ── what a fresh receiver can be told to listen to ──
 -- telling changes the listened universes alone
@@ -53,22 +50,34 @@ record Quiet (s t : State) : Type 0 where
   quiet-data : t .data-pairs ≡ s .data-pairs
   quiet-sync : t .sync-pairs ≡ s .sync-pairs
   quiet-waiting : t .waiting ≡ s .waiting
+  quiet-discovered : t .discovered ≡ s .discovered
 
 quiet-tell : (ts : List Telling) (s : State) → Quiet s (tell ts s)
 unfolding tell listen-call mute-call
-quiet-tell [] s = record { quiet-data = refl; quiet-sync = refl; quiet-waiting = refl }
+quiet-tell [] s = record { quiet-data = refl; quiet-sync = refl; quiet-waiting = refl; quiet-discovered = refl }
 quiet-tell (listen us ∷ ts) s =
     let r = quiet-tell ts (listen-call us s .0) in
-    record { quiet-data = r .quiet-data; quiet-sync = r .quiet-sync; quiet-waiting = r .quiet-waiting }
+    record { quiet-data = r .quiet-data; quiet-sync = r .quiet-sync; quiet-waiting = r .quiet-waiting; quiet-discovered = r .quiet-discovered }
 quiet-tell (mute v ∷ ts) s =
     let r = quiet-tell ts (mute-call v s .0) in
-    record { quiet-data = r .quiet-data; quiet-sync = r .quiet-sync; quiet-waiting = r .quiet-waiting }
+    record { quiet-data = r .quiet-data; quiet-sync = r .quiet-sync; quiet-waiting = r .quiet-waiting; quiet-discovered = r .quiet-discovered }
 
 heard-tell : (ts : List Telling) (s : State) → Heard (s .listened) → Heard (tell ts s .listened)
 unfolding tell listen-call mute-call
 heard-tell [] s h = h
 heard-tell (listen us ∷ ts) s h = heard-tell ts (listen-call us s .0) (listen-heard us (s .listened) h)
 heard-tell (mute v ∷ ts) s h = heard-tell ts (mute-call v s .0) (mute-heard v (s .listened) h)
+
+-- told alike, two fresh receivers start alike
+same-start : (ts us : List Telling) → start ts .listened ≡ start us .listened → start ts ≡ start us
+same-start ts us e =
+    let p = quiet-tell ts fresh in
+    let q = quiet-tell us fresh in
+    let d = p .quiet-data ∙ sym (q .quiet-data) in
+    let y = p .quiet-sync ∙ sym (q .quiet-sync) in
+    let w = p .quiet-waiting ∙ sym (q .quiet-waiting) in
+    let n = p .quiet-discovered ∙ sym (q .quiet-discovered) in
+    λ i. record { data-pairs = d i; sync-pairs = y i; waiting = w i; listened = e i; discovered = n i }
 
 -- ── the machine: the model's step where space is enough ──
 fault : Timed → Option Told
@@ -102,6 +111,13 @@ receive-fine S s p e = rw e
 poll-off : (S : Settings) (now : ℕ) (s : State) → S .«announce_timeout» ≡ false → model.poll S now s ≡ (polled now s, none)
 unfolding model.poll model.poll-sync model.poll-waiting polled pairs.sweep
 poll-off S now s off = rw off
+
+-- a synchronisation packet of address 0 changes nothing but what the poll sweeps, and answers nothing
+pub zero-address : (m : Space) (S : Settings) (now : ℕ) (y : SyncPacket) (s : State) → too-short m ≡ none → S .«announce_timeout» ≡ false → Heard (s .listened)
+    → y .address ≡ 0 → model.step m S now (sync-packet y) s ≡ outcome (polled now s) says.Nothing
+unfolding model.step model.measured too-long model.polled model.packet-step
+zero-address m S now y s e off H z =
+    rw (e, model.step, poll-off S now s off) (zero-not-taken S now y (polled now s) (unfold polled in H) z)
 
 -- ── an answer seen with its packet ──
 abbrev relabel : {State Packet Answer Label : Type 0} → (Packet → Answer → Label) → (State → Packet → State × Answer) → State → Packet → State × Label
@@ -183,9 +199,6 @@ module _ (address-of first-of : ℕ → ℕ) (S : Settings) (L : List ℕ) (D : 
   fits-ideal now (sync-packet y) f = tt
   fits-ideal now (discovery-packet a) f = tt
 
-  no-zero : listens 0 L ≡ false
-  no-zero = split (listens 0 L) (λ h. clash (H .all-legal 0 h) refl) (λ h. h)
-
   -- the packet's step, from a state as polled
   packet-agree : (now : ℕ) (b : Packet) (s : State) → GoodAt s → FitsReal now b → polled now s ≡ s → capped (model.packet-step S now b s .answer) ≡ false
       → out (model.packet-step S now b s) ≡ done (effect S now b s) s
@@ -197,7 +210,7 @@ module _ (address-of first-of : ℕ → ℕ) (S : Settings) (L : List ℕ) (D : 
   packet-agree now (sync-packet y) s g f e n =
       sync-agree address-of first-of S L off highest H now y s (g .good) (g .hearing)
       (room (S .«source_limit») D (y .cid) (s .sync-pairs) (g .good .good-sync) (g .in-sync) sorted (f .in-list) under)
-      (ap (λ (t : State). t .sync-pairs) e) no-zero (f .heard-address) n
+      (ap (λ (t : State). t .sync-pairs) e) (f .heard-address) n
   packet-agree now (discovery-packet a) s g f e n = discovery-agree address-of first-of S L off highest H now a s n
 
   good-at-polled : (now : ℕ) (s : State) → GoodAt s → GoodAt (polled now s)
@@ -282,13 +295,13 @@ module _ (address-of first-of : ℕ → ℕ) (S : Settings) (L : List ℕ) (D : 
 
 -- ── places in a reordering ──
 picks-at : {A : Type 0} (places : List ℕ) (north south : List A) (k j : ℕ) (q : A) → Picks places north south → At places k j → At north j q → At south k q
-picks-at [] north south k j q e a b = none-some a
+picks-at [] north south k j q e a b = missing _ a refl
 picks-at (i ∷ places) north [] k j q e a b = let z : _≡_ {A = ℕ} 0 1 = cc in absurd (omega arith)
 picks-at (i ∷ places) north (x ∷ south) zero j q e a b = cc
 picks-at (i ∷ places) north (x ∷ south) (suc k) j q e a b = picks-at places north south k j q (cc) a b
 
 picks-from : {A : Type 0} (places : List ℕ) (north south : List A) (k : ℕ) (q : A) → Picks places north south → At south k q → (i : ℕ) × At north i q
-picks-from places north [] k q e a = none-some a
+picks-from places north [] k q e a = missing _ a refl
 picks-from [] north (x ∷ south) k q e a = let z : _≡_ {A = ℕ} 0 1 = cc in absurd (omega arith)
 picks-from (i ∷ places) north (x ∷ south) zero q e a = (i, (cc))
 picks-from (i ∷ places) north (x ∷ south) (suc k) q e a = picks-from places north south k q (cc) a
@@ -319,7 +332,7 @@ counted-in c (discovery-packet d) cs k = k
 
 data-counted : (ps : List Timed) (i now : ℕ) (d : DataPacket) → DataAt ps i now d → In before cid-order (d .cid) (sources-of ps)
 unfolding sources-of counted
-data-counted [] i now d a = none-some a
+data-counted [] i now d a = missing _ a refl
 data-counted (p ∷ ps) zero now d a =
     let e : p .packet ≡ data-packet d = cc in
     subst (λ (b : Packet). In before cid-order (d .cid) (counted b (sources-of ps))) (sym e) (find-store-same before itself cid-order (d .cid) (sources-of ps))
@@ -327,7 +340,7 @@ data-counted (p ∷ ps) (suc i) now d a = counted-in (d .cid) (p .packet) (sourc
 
 sync-counted : (ps : List Timed) (i now : ℕ) (y : SyncPacket) → SyncAt ps i now y → In before cid-order (y .cid) (sources-of ps)
 unfolding sources-of counted
-sync-counted [] i now y a = none-some a
+sync-counted [] i now y a = missing _ a refl
 sync-counted (p ∷ ps) zero now y a =
     let e : p .packet ≡ sync-packet y = cc in
     subst (λ (b : Packet). In before cid-order (y .cid) (counted b (sources-of ps))) (sym e) (find-store-same before itself cid-order (y .cid) (sources-of ps))
@@ -353,7 +366,7 @@ record Chosen (u : ℕ) (ps : List Timed) : Type 0 where
 
 choose : (ps : List Timed) (i now : ℕ) (d : DataPacket) → DataAt ps i now d → Chosen (d .universe) ps
 unfolding first-for first-in
-choose [] i now d a = none-some a
+choose [] i now d a = missing _ a refl
 choose (p ∷ ps) zero now d a =
     record {
       packet = d;
@@ -405,7 +418,7 @@ first-value-for (some d) = head-for (d .values)
 values-split : (vs ws : List ℕ) → vs ≢ [] → getElem? vs 0 ≡ getElem? ws 0 → (others : List ℕ) × (vs ≡ head-for ws ∷ others)
 unfolding head-for
 values-split [] ws n e = absurd (n refl)
-values-split (v ∷ vs) [] n e = none-some (sym e)
+values-split (v ∷ vs) [] n e = missing v refl e
 values-split (v ∷ vs) (w ∷ ws) n e = (vs, (cc))
 
 empty-has : (c : Cid) → has [] c ≡ false
@@ -413,8 +426,9 @@ unfolding any
 empty-has c = refl
 
 -- ── demand 3 ──
-module _ (S : Settings) (ts : List Telling) (places : List ℕ) (north south : List Timed) (lent-north lent-south : ℕ → Space)
-    (A : Asked S ts places north south lent-north lent-south) where
+module _ (S : Settings) (told-north told-south : List Telling) (places : List ℕ) (north south : List Timed) (lent-north lent-south : ℕ → Space)
+    (A : Asked S told-north told-south places north south lent-north lent-south)
+    (N : NeitherFull (answers S lent-north 0 (start told-north) north) (answers S lent-south 0 (start told-south) south)) where
   address-of : ℕ → ℕ
   address-of u = address-for (first-for u north)
 
@@ -422,11 +436,11 @@ module _ (S : Settings) (ts : List Telling) (places : List ℕ) (north south : L
   first-of u = first-value-for (first-for u north)
 
   L : List ℕ
-  L = start ts .listened
+  L = start told-north .listened
 
   H : Heard L
   unfolding L
-  H = heard-tell ts fresh heard-fresh
+  H = heard-tell told-north fresh heard-fresh
 
   sorted : Ascending before itself (sources-of north)
   sorted = ascending-sources north
@@ -470,10 +484,10 @@ module _ (S : Settings) (ts : List Telling) (places : List ℕ) (north south : L
   fits-south : (k : ℕ) (p : Timed) → At south k p → Fit p
   fits-south k p a = let (i, h) = picks-from places north south k p (A .reordering .picks) a in fits-north i p h
 
-  good-start : Sane (start ts)
+  good-start : Sane (start told-north)
   unfolding L
   good-start =
-      let q = quiet-tell ts fresh in
+      let q = quiet-tell told-north fresh in
       let d = q .quiet-data in
       let y = q .quiet-sync in
       let w = q .quiet-waiting in
@@ -515,15 +529,15 @@ module _ (S : Settings) (ts : List Telling) (places : List ℕ) (north south : L
   unfull a h = not-full (a .number) h
 
   module _ (lent : ℕ → Space) (ps : List Timed) (space : (i : ℕ) → i < length ps → too-short (lent i) ≡ none) (fits : (i : ℕ) (p : Timed) → At ps i p → Fit p)
-      (fine : NoneFull (answers S lent 0 (start ts) ps)) where
-    run-ideal : (answers S lent 0 (start ts) ps ≡ reorder.answers (relabel answer-of (guarded fault (step S))) (start ts) ps)
-        × (end S lent 0 (start ts) ps ≡ reorder.final (relabel answer-of (guarded fault (step S))) (start ts) ps)
+      (fine : NoneFull (answers S lent 0 (start told-north) ps)) where
+    run-ideal : (answers S lent 0 (start told-north) ps ≡ reorder.answers (relabel answer-of (guarded fault (step S))) (start told-north) ps)
+        × (end S lent 0 (start told-north) ps ≡ reorder.final (relabel answer-of (guarded fault (step S))) (start told-north) ps)
     run-ideal =
         let z : 0 + length ps ≤ length ps = omega arith in
-        let e = answers-run S lent (length ps) space 0 (start ts) ps z in
-        let r = as-ideal-run address-of first-of S L (sources-of north) (A .timeouts-off) (A .highest-value) H (A .in-limit) sorted (start ts) ps good-start fits
+        let e = answers-run S lent (length ps) space 0 (start told-north) ps z in
+        let r = as-ideal-run address-of first-of S L (sources-of north) (A .timeouts-off) (A .highest-value) H (A .in-limit) sorted (start told-north) ps good-start fits
         (λ i a h. unfull a (fine i a (rw e h))) in
-        (e ∙ r .0, end-run S lent (length ps) space 0 (start ts) ps z ∙ r .1)
+        (e ∙ r .0, end-run S lent (length ps) space 0 (start told-north) ps z ∙ r .1)
 
   fits-fine : (i : ℕ) (p : Timed) → At north i p → Fits address-of first-of S p
   fits-fine i p a = fits-ideal address-of first-of S L (sources-of north) (A .timeouts-off) (A .highest-value) H (A .in-limit) sorted (p .reading) (p .packet) (fits-north i p a)
@@ -531,15 +545,25 @@ module _ (S : Settings) (ts : List Telling) (places : List ℕ) (north south : L
   commuting : Commutes (relabel answer-of (guarded fault (step S))) Same (Good address-of first-of S) (Fits address-of first-of S) Indep
   commuting = C address-of first-of S L (sources-of north) (A .timeouts-off) (A .highest-value) H (A .in-limit) sorted
 
-  agreed : Agreed S ts places north south lent-north lent-south
+  starts : start told-north ≡ start told-south
+  starts = same-start told-north told-south (A .alike-told)
+
+  -- South's run is the ideal run from North's start
+  south-ideal : (answers S lent-south 0 (start told-south) south ≡ reorder.answers (relabel answer-of (guarded fault (step S))) (start told-north) south)
+      × (end S lent-south 0 (start told-south) south ≡ reorder.final (relabel answer-of (guarded fault (step S))) (start told-north) south)
+  south-ideal =
+      let r = run-ideal lent-south south (A .south-space) fits-south (subst (λ (s : State). NoneFull (answers S lent-south 0 s south)) (sym starts) (N .south-fits)) in
+      (ap (λ (s : State). answers S lent-south 0 s south) (sym starts) ∙ r .0, ap (λ (s : State). end S lent-south 0 s south) (sym starts) ∙ r .1)
+
+  agreed : Agreed S told-north told-south places north south lent-north lent-south
   agreed =
-      let n = run-ideal lent-north north (A .north-space) fits-north (A .north-fits) in
-      let m = run-ideal lent-south south (A .south-space) fits-south (A .south-fits) in
+      let n = run-ideal lent-north north (A .north-space) fits-north (N .north-fits) in
+      let m = south-ideal in
       let e = reorder.same-end (relabel answer-of (guarded fault (step S))) Same (Good address-of first-of S) (Fits address-of first-of S) Indep commuting
-      (start ts) (good-start .good) places north south (A .reordering) fits-fine independent in
+      (start told-north) (good-start .good) places north south (A .reordering) fits-fine independent in
       record {
         same-answers = rw (n .0, m .0) (reorder.same-answers (relabel answer-of (guarded fault (step S))) Same (Good address-of first-of S) (Fits address-of first-of S) Indep commuting
-            (start ts) (good-start .good) places north south (A .reordering) fits-fine independent);
+            (start told-north) (good-start .good) places north south (A .reordering) fits-fine independent);
         same-end = rw (n .1, m .1) (record {
           same-data = e .same-data;
           same-sync = e .same-sync;
@@ -552,4 +576,4 @@ module _ (S : Settings) (ts : List Telling) (places : List ℕ) (north south : L
 
 -- DEMAND 3.
 pub demand-3 : Demand-3
-demand-3 S ts places north south lent-north lent-south A = agreed S ts places north south lent-north lent-south A
+demand-3 S told-north told-south places north south lent-north lent-south A N = agreed S told-north told-south places north south lent-north lent-south A N

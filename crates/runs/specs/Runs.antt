@@ -107,7 +107,7 @@ abbrev pub Tells : Receiver → Memory → List Telling-to → Receiver → Memo
 Tells r m [] r′ m′ = (r ≡ r′) × (m ≡ m′)
 Tells r m (t ∷ ts) r′ m′ = (t .receiver ≡ r) × (t .lent ≡ m) × Tells (t .receiver′) (t .lent′) ts r′ m′
 
--- "each from a fresh receiver with the same settings and listened universes"
+-- "each from a fresh receiver": made fresh, and then told ts
 pub record Prepared (ts : List Telling) (r : Receiver) (m : Memory) : Type 0 where
   pub fresh-receiver : Receiver
   pub fresh-memory : Memory

@@ -35,7 +35,7 @@ use Rattle.model.specs.Step as model
 use Rattle.model.specs.Step.{Space, Outcome, outcome, if-accepted, stopped, kept, listed, release, heard, too-short, measured, polled, poll, packet-step, step}
 use Rattle.model.specs.declared.MuteAnswer.{MuteAnswer}
 use Rattle.model.specs.Calls.{listen-call, mute-call}
-use Rattle.reorder.specs.Demand.{Telling, listen, mute, tell, start, nameOf, Answered, answered, outcome-of, end, answers, Picks, EndAlike, Asked}
+use Rattle.reorder.specs.Demand.{Telling, listen, mute, tell, start, nameOf, Answered, answered, outcome-of, end, answers, Picks, NoneFull, EndAlike, Asked, NeitherFull}
 use Rattle.reorder.specs.Proof.{demand-3}
 use Rattle.receiver.specs.declared.Receiver.{Receiver}
 use Rattle.receiver.specs.View.{Memory, stateOf, spaceIn}
@@ -255,23 +255,31 @@ prepared ts r m p =
     ∙ ap (tell (tellings (p .calls))) (p .begins .state-is)
     ∙ ap (λ (us : List Telling). tell us fresh) (p .told)
 
+-- the whole run, from the fresh receiver on
+told-run : {S : Settings} (ts : List Telling) (hs : List (Handling S)) (r : Receiver) (m : Memory) → Prepared ts r m → Linked r m hs
+    → (answers S (lent-to hs) 0 (start ts) (packets hs) ≡ all-seen hs) × (end S (lent-to hs) 0 (start ts) (packets hs) ≡ left-by r m hs)
+told-run {S} ts hs r m p l =
+    let e = run-is (lent-to hs) 0 r m hs l (λ j. ap (lent-to hs) (zero-add j)) in
+    let b = sym (prepared ts r m p) in (
+      ap (λ (s : State). answers S (lent-to hs) 0 s (packets hs)) b ∙ e .0,
+      ap (λ (s : State). end S (lent-to hs) 0 s (packets hs)) b ∙ e .1,
+    )
+
 -- ── demand 3 for the code ──
--- Two receivers made fresh and told alike, each handed its list of packets, every call by its contract. With the demand's premises on the lists and
--- on what was lent, the caller sees the same answer and bytes of each packet, and the receivers end alike.
-pub code-demand-3 : (S : Settings) (ts : List Telling) (places : List ℕ) (north south : List (Handling S)) (rn : Receiver) (mn : Memory) (rs : Receiver) (ms : Memory)
-    → Prepared ts rn mn → Prepared ts rs ms → Linked rn mn north → Linked rs ms south
-    → Asked S ts places (packets north) (packets south) (lent-to north) (lent-to south)
+-- Two receivers made fresh and told to listen to the same universes, each handed its list of packets, every call by its contract. With the demand's
+-- premises on the lists and on what was lent, and none of 10 to 13 among the answers that the caller sees, the caller sees the same answer and bytes
+-- of each packet, and the receivers end alike.
+pub code-demand-3 : (S : Settings) (told-north told-south : List Telling) (places : List ℕ) (north south : List (Handling S))
+    (rn : Receiver) (mn : Memory) (rs : Receiver) (ms : Memory)
+    → Prepared told-north rn mn → Prepared told-south rs ms → Linked rn mn north → Linked rs ms south
+    → Asked S told-north told-south places (packets north) (packets south) (lent-to north) (lent-to south)
+    → NeitherFull (all-seen north) (all-seen south)
     → Picks places (all-seen north) (all-seen south) × EndAlike (left-by rs ms south) (left-by rn mn north)
-code-demand-3 S ts places north south rn mn rs ms pn ps ln ls a =
-    let n = run-is (lent-to north) 0 rn mn north ln (λ j. ap (lent-to north) (zero-add j)) in
-    let s = run-is (lent-to south) 0 rs ms south ls (λ j. ap (lent-to south) (zero-add j)) in
-    let en = prepared ts rn mn pn in
-    let es = prepared ts rs ms ps in
-    let d = demand-3 S ts places (packets north) (packets south) (lent-to north) (lent-to south) a in
-    let an : answers S (lent-to north) 0 (start ts) (packets north) ≡ all-seen north = ap (λ (x : State). answers S (lent-to north) 0 x (packets north)) (sym en) ∙ n .0 in
-    let sa : answers S (lent-to south) 0 (start ts) (packets south) ≡ all-seen south = ap (λ (x : State). answers S (lent-to south) 0 x (packets south)) (sym es) ∙ s .0 in
-    let zn : end S (lent-to north) 0 (start ts) (packets north) ≡ left-by rn mn north = ap (λ (x : State). end S (lent-to north) 0 x (packets north)) (sym en) ∙ n .1 in
-    let zs : end S (lent-to south) 0 (start ts) (packets south) ≡ left-by rs ms south = ap (λ (x : State). end S (lent-to south) 0 x (packets south)) (sym es) ∙ s .1 in (
-      subst (λ (x : List Answered). Picks places x (all-seen south)) an (subst (λ (x : List Answered). Picks places (answers S (lent-to north) 0 (start ts) (packets north)) x) sa (d .same-answers)),
-      subst (λ (x : State). EndAlike x (left-by rn mn north)) zs (subst (λ (x : State). EndAlike (end S (lent-to south) 0 (start ts) (packets south)) x) zn (d .same-end)),
+code-demand-3 S told-north told-south places north south rn mn rs ms pn ps ln ls asked fits =
+    let (seen-north, end-north) = told-run told-north north rn mn pn ln in
+    let (seen-south, end-south) = told-run told-south south rs ms ps ls in
+    let d = demand-3 S told-north told-south places (packets north) (packets south) (lent-to north) (lent-to south) asked
+    (record { north-fits = subst NoneFull (sym seen-north) (fits .north-fits); south-fits = subst NoneFull (sym seen-south) (fits .south-fits) }) in (
+      subst (λ (x : List Answered). Picks places x (all-seen south)) seen-north (subst (λ (x : List Answered). Picks places (answers S (lent-to north) 0 (start told-north) (packets north)) x) seen-south (d .same-answers)),
+      subst (λ (x : State). EndAlike x (left-by rn mn north)) end-south (subst (λ (x : State). EndAlike (end S (lent-to south) 0 (start told-south) (packets south)) x) end-north (d .same-end)),
     )
