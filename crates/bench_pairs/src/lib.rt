@@ -6,9 +6,10 @@ ghost use Rattle.pairs.specs.Table.{numberOf, check};
 ghost use Rattle.pairs.specs.View.{tableOf, arriving, Kept, Follows};
 ghost use Rattle.bench_pairs.specs.Bench.{tableFrom, numbered};
 use pairs::Checked;
-use pairs::Pair;
+use pairs::DataTable;
 use pairs::PairTable;
 use rules::Cid;
+use rules::DataSequence;
 use settings::SourceLimit;
 
 // The header of a table, and the number of the last answer.
@@ -55,14 +56,19 @@ pub extern "C" fn bench_check_seq_number(
         tidy: header.tidy,
     };
     let cid = Cid { hi, lo };
-    let pair = Pair {
-        cid: cid,
-        universe: universe,
-        sequence: sequence,
-        reading: reading,
-    };
-    let r = table.check_seq_number(pairs, sources, SourceLimit::Unlimited, false, pair);
-    let t = r.table;
+    let data = DataTable { table };
+    let r = data.check_seq_number(
+        pairs,
+        sources,
+        SourceLimit::Unlimited,
+        false,
+        cid,
+        universe,
+        DataSequence(sequence),
+        reading,
+    );
+    let d = r.table;
+    let t = d.table;
     let answer = r.answer;
     let number = number_of(answer);
     Header {

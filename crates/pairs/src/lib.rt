@@ -140,7 +140,7 @@ fn drop_source(sources: &mut [[u64; 2]; 1024], n: usize, cid: Cid) -> usize
 
 impl PairTable {
     // No pairs and no sources, whatever the rows hold.
-    pub fn new() -> PairTable
+    fn new() -> PairTable
         ensures { λ r. ⌜ Emptied r ⌝ }
     {
         PairTable {
@@ -151,13 +151,13 @@ impl PairTable {
         }
     }
 
-    pub fn clear(self) -> PairTable
+    fn clear(self) -> PairTable
         ensures { λ r. ⌜ Emptied r ⌝ }
     {
         PairTable::new()
     }
 
-    pub fn find(self, pairs: &[[u64; 4]; 1024], cid: Cid, universe: u16) -> Found
+    fn find(self, pairs: &[[u64; 4]; 1024], cid: Cid, universe: u16) -> Found
         requires { ⌜ (self .count ≤ 1024) × (length (now pairs) ≡ 1024) ⌝ }
         ensures { λ r. ⌜ r ≡ foundAt (key cid universe) (pairsOf (self .count) (now (pairs .entry))) ⌝ }
     {
@@ -174,7 +174,7 @@ impl PairTable {
     }
 
     // The pair goes, and its CID with its last pair.
-    pub fn remove(
+    fn remove(
         self,
         pairs: &mut [[u64; 4]; 1024],
         sources: &mut [[u64; 2]; 1024],
@@ -321,7 +321,7 @@ impl PairTable {
         }
     }
 
-    pub fn sweep(
+    fn sweep(
         self,
         pairs: &mut [[u64; 4]; 1024],
         sources: &mut [[u64; 2]; 1024],
@@ -469,7 +469,7 @@ impl PairTable {
     }
 
     // Rules 2 to 5, on the table as swept.
-    pub fn admit(
+    fn admit(
         self,
         pairs: &mut [[u64; 4]; 1024],
         sources: &mut [[u64; 2]; 1024],
@@ -493,7 +493,7 @@ impl PairTable {
     }
 
     // An arrival: sweep, then rules 2 to 5. The pair carries the arriving sequence number and the reading.
-    pub fn check_seq_number(
+    fn check_seq_number(
         self,
         pairs: &mut [[u64; 4]; 1024],
         sources: &mut [[u64; 2]; 1024],

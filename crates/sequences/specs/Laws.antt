@@ -17,7 +17,7 @@ use Rattle.pairs.specs.View as pairs
 use Rattle.pairs.specs.View.{Rows, tableOf, answerOf, removal}
 use Rattle.sequences.specs.declared.SequenceNumbering.{SequenceNumbering}
 use Rattle.sequences.specs.Sequences.{Numbers, numbers, timeouts, timeouts-data, timeouts-sync, removed}
-use Rattle.sequences.specs.View.{Lent, lent, dataOf, syncOf, numbersOf, Kept, Follows, answered}
+use Rattle.sequences.specs.View.{Lent, lent, dataOf, syncOf, numbersOf, Kept, Follows, Unmoved, answered}
 
 -- ── the definition, by what the first sweep gave ──
 pub answer-some : (o : Option Key) (c : Cid) (u : ℕ) → TimedOut c u ≡ answerOf o → o ≡ some (key c u)
@@ -68,6 +68,10 @@ module _ (n : SequenceNumbering) (m : Lent) (k : Kept n m) (announce : Bool) (no
         answer-is = g .answer-is ∙ sym (ap (λ (r : Numbers × Option Key). answerOf (r .1)) t);
         kept = record { kept-data = f .kept; kept-sync = g .kept };
       }
+
+  -- a 4 from the data table leaves the synchronisation rows
+  pub unmoved-data : pairs.Unmoved (n .«data» .table) (m .data-pairs) (m .data-sources) now dp ds → Unmoved n m now (lent dp ds (m .sync-pairs) (m .sync-sources))
+  unmoved-data u = record { data-same = u; sync-same = record { rows-same = λ s l. (refl, refl) } }
 
 -- a removal, by whether the data pair was known
 known-first : (j : Key) (x : Numbers) → not (unknown (pairAt j (x .data-table .pairs))) ≡ true → removed j x ≡ numbers (without j (x .data-table)) (without j (x .sync-table))

@@ -45,6 +45,11 @@ pub record Follows {A : Type 0} (n : SequenceNumbering) (m : Lent) (answer : A) 
 abbrev pub answered : Numbers × Option Key → Numbers × SweepAnswer
 answered r = (r .0, answerOf (r .1))
 
+-- each table's rows stay as they are where none of its pairs is expired and each of its listed CIDs has a pair
+pub record Unmoved (n : SequenceNumbering) (m : Lent) (now : ℕ) (m′ : Lent) : Type 0 where
+  pub data-same : pairs.Unmoved (n .«data» .table) (m .data-pairs) (m .data-sources) now (m′ .data-pairs) (m′ .data-sources)
+  pub sync-same : pairs.Unmoved (n .sync .table) (m .sync-pairs) (m .sync-sources) now (m′ .sync-pairs) (m′ .sync-sources)
+
 -- both tables are empty over any rows
 pub record Emptied (n : SequenceNumbering) : Type 0 where
   pub no-data : pairs.Emptied (n .«data» .table)

@@ -4,7 +4,7 @@ ghost use Prim.Native.Nat.{_≤_};
 ghost use lib.ListN.{length};
 ghost use Rattle.pairs.specs.Table.{key};
 ghost use Rattle.sequences.specs.Sequences.{timeouts, removed};
-ghost use Rattle.sequences.specs.View.{lent, numbersOf, Kept, Follows, Emptied, answered};
+ghost use Rattle.sequences.specs.View.{lent, numbersOf, Kept, Follows, Unmoved, Emptied, answered};
 use pairs::DataTable;
 use pairs::SweepAnswer;
 use pairs::SyncTable;
@@ -50,7 +50,8 @@ impl SequenceNumbering {
         reading: u64,
     ) -> TimeoutsChecked
         requires { ⌜ Kept self (lent (now «data_pairs») (now «data_sources») (now «sync_pairs») (now «sync_sources»)) ⌝ }
-        ensures { λ r. ⌜ Follows (r .sequences) (lent (now («data_pairs» .exit)) (now («data_sources» .exit)) (now («sync_pairs» .exit)) (now («sync_sources» .exit))) (r .answer) (answered (timeouts announce reading (numbersOf self (lent (now («data_pairs» .entry)) (now («data_sources» .entry)) (now («sync_pairs» .entry)) (now («sync_sources» .entry)))))) ⌝ }
+        ensures view { λ r. ⌜ Follows (r .sequences) (lent (now («data_pairs» .exit)) (now («data_sources» .exit)) (now («sync_pairs» .exit)) (now («sync_sources» .exit))) (r .answer) (answered (timeouts announce reading (numbersOf self (lent (now («data_pairs» .entry)) (now («data_sources» .entry)) (now («sync_pairs» .entry)) (now («sync_sources» .entry)))))) ⌝ }
+        ensures quiet { λ r. ⌜ Unmoved self (lent (now («data_pairs» .entry)) (now («data_sources» .entry)) (now («sync_pairs» .entry)) (now («sync_sources» .entry))) reading (lent (now («data_pairs» .exit)) (now («data_sources» .exit)) (now («sync_pairs» .exit)) (now («sync_sources» .exit))) ⌝ }
     {
         let d = self.data;
         let y = self.sync;

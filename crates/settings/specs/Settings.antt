@@ -3,7 +3,8 @@
 use mathlib.Core.Path.{_≡_, refl}
 use mathlib.Core.Bool.{Bool, true, false, cond}
 use mathlib.Core.List.{List, []}
-use Prim.Native.Nat.{ℕ, _≤_}
+use Prim.Native.Nat.{ℕ, zero, suc, _≤_}
+use native.Mathlib.Omega.{arith}
 use lib.Dec.{eqb}
 use borrow.Author.Tests.{ne-eqb}
 use Rattle.rules.specs.Answer.{Value}
@@ -68,10 +69,13 @@ abbrev pub valuesOf : LimitAnswer → List Value
 valuesOf Set = []
 valuesOf Zero = []
 
--- a limit is none, or at least 1 and of 16 bits
-abbrev pub Proper : SourceLimit → Type 0
-Proper Unlimited = Unit {0}
-Proper (AtMost n) = (1 ≤ n) × (n ≤ 65535)
+-- "a source limit that is either none or 1 to 65,535"
+abbrev pub Proper-limit : SourceLimit → Type 0
+Proper-limit Unlimited = Unit {0}
+Proper-limit (AtMost n) = (1 ≤ n) × (n ≤ 65535)
+
+abbrev pub Proper : Settings → Type 0
+Proper s = Proper-limit (s .«source_limit»)
 
 -- the row of document 01's table: number 14, nothing returned, all left
 pub limit-zero : (s : Settings) → (numberOf (limited 0 s .answer) ≡ 14) × (valuesOf (limited 0 s .answer) ≡ []) × (limited 0 s .settings ≡ s)
@@ -80,3 +84,31 @@ limit-zero s = (refl, refl, refl)
 -- any other limit is taken
 pub limit-set : (n : ℕ) (s : Settings) → (n ≡ 0 → ⊥) → (numberOf (limited n s .answer) ≡ 0) × (limited n s .settings ≡ withLimit (AtMost n) s)
 limit-set n s h = let e = ne-eqb n 0 h in (rw e, rw e)
+
+-- ── every limit is proper, from the fresh record on ──
+pub fresh-proper : Proper fresh
+fresh-proper = tt
+
+-- a setter of another part leaves the limit
+pub preview-proper : (on : Bool) (s : Settings) → Proper s → Proper (withPreview on s)
+preview-proper on s h = h
+
+pub discovery-proper : (on : Bool) (s : Settings) → Proper s → Proper (withDiscovery on s)
+discovery-proper on s h = h
+
+pub termination-proper : (on : Bool) (s : Settings) → Proper s → Proper (withTermination on s)
+termination-proper on s h = h
+
+pub timeout-proper : (on : Bool) (s : Settings) → Proper s → Proper (withTimeout on s)
+timeout-proper on s h = h
+
+pub merge-proper : (choice : MergeChoice) (s : Settings) → Proper s → Proper (withMerge choice s)
+merge-proper choice s h = h
+
+pub unlimited-proper : (s : Settings) → Proper s → Proper (withoutLimit s)
+unlimited-proper s h = tt
+
+-- a limit of 0 is refused; any other of 16 bits is proper
+pub limited-proper : (n : ℕ) (s : Settings) → n ≤ 65535 → Proper s → Proper (limited n s .settings)
+limited-proper zero s f h = h
+limited-proper (suc n) s f h = rw (ne-eqb (suc n) 0 (λ e. absurd (omega arith))) (omega arith, f)

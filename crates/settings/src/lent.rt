@@ -1,42 +1,48 @@
 // Document 01, 'Settings': "The setters change a small settings record lent to them." Each stores what the setter by value hands back.
 ghost use mathlib.Core.Path.{_≡_};
-ghost use Rattle.settings.specs.Settings.{withPreview, withDiscovery, withTermination, withTimeout, withMerge, withoutLimit, limited};
+ghost use Rattle.settings.specs.Settings.{withPreview, withDiscovery, withTermination, withTimeout, withMerge, withoutLimit, limited, Proper};
 use crate::LimitAnswer;
 use crate::MergeChoice;
 use crate::Settings;
 
 pub fn set_process_preview_data(s: &mut Settings, on: bool)
     ensures { λ _. ⌜ now (s .exit) ≡ withPreview on (now (s .entry)) ⌝ }
+    ensures proper { λ _. ⌜ (Proper (now (s .entry)) → Proper (now (s .exit))) ⌝ }
 {
     *s = (*s).set_process_preview_data(on);
 }
 
 pub fn set_announce_source_discovery(s: &mut Settings, on: bool)
     ensures { λ _. ⌜ now (s .exit) ≡ withDiscovery on (now (s .entry)) ⌝ }
+    ensures proper { λ _. ⌜ (Proper (now (s .entry)) → Proper (now (s .exit))) ⌝ }
 {
     *s = (*s).set_announce_source_discovery(on);
 }
 
 pub fn set_announce_stream_termination(s: &mut Settings, on: bool)
     ensures { λ _. ⌜ now (s .exit) ≡ withTermination on (now (s .entry)) ⌝ }
+    ensures proper { λ _. ⌜ (Proper (now (s .entry)) → Proper (now (s .exit))) ⌝ }
 {
     *s = (*s).set_announce_stream_termination(on);
 }
 
 pub fn set_announce_timeout(s: &mut Settings, on: bool)
     ensures { λ _. ⌜ now (s .exit) ≡ withTimeout on (now (s .entry)) ⌝ }
+    ensures proper { λ _. ⌜ (Proper (now (s .entry)) → Proper (now (s .exit))) ⌝ }
 {
     *s = (*s).set_announce_timeout(on);
 }
 
 pub fn set_merge(s: &mut Settings, choice: MergeChoice)
     ensures { λ _. ⌜ now (s .exit) ≡ withMerge choice (now (s .entry)) ⌝ }
+    ensures proper { λ _. ⌜ (Proper (now (s .entry)) → Proper (now (s .exit))) ⌝ }
 {
     *s = (*s).set_merge(choice);
 }
 
 pub fn clear_source_limit(s: &mut Settings)
     ensures { λ _. ⌜ now (s .exit) ≡ withoutLimit (now (s .entry)) ⌝ }
+    ensures proper { λ _. ⌜ (Proper (now (s .entry)) → Proper (now (s .exit))) ⌝ }
 {
     *s = (*s).clear_source_limit();
 }
@@ -44,6 +50,7 @@ pub fn clear_source_limit(s: &mut Settings)
 // A limit of 0 gives 14 and leaves the record as it was.
 pub fn set_source_limit(s: &mut Settings, limit: u16) -> LimitAnswer
     ensures { λ r. ⌜ (now (s .exit) ≡ limited limit (now (s .entry)) .settings) × (r ≡ limited limit (now (s .entry)) .answer) ⌝ }
+    ensures proper { λ _. ⌜ (Proper (now (s .entry)) → Proper (now (s .exit))) ⌝ }
 {
     let t = *s;
     let l = t.set_source_limit(limit);

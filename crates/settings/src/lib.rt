@@ -1,6 +1,6 @@
 // Document 01, 'Settings': preview, three announcements, merge choice and source limit. The setters take a record and hand back the next; those of `lent` change a record lent to them.
 ghost use mathlib.Core.Path.{_≡_};
-ghost use Rattle.settings.specs.Settings.{fresh, withPreview, withDiscovery, withTermination, withTimeout, withMerge, withoutLimit, limited};
+ghost use Rattle.settings.specs.Settings.{fresh, withPreview, withDiscovery, withTermination, withTimeout, withMerge, withoutLimit, limited, Proper};
 
 pub mod lent;
 
@@ -41,6 +41,7 @@ impl Settings {
     // Preview and announcements off, merging by priority, no limit.
     pub fn new() -> Settings
         ensures { λ r. ⌜ r ≡ fresh ⌝ }
+        ensures proper { λ r. ⌜ Proper r ⌝ }
     {
         Settings {
             process_preview_data: false,
@@ -54,6 +55,7 @@ impl Settings {
 
     pub fn set_process_preview_data(self, on: bool) -> Settings
         ensures { λ r. ⌜ r ≡ withPreview on self ⌝ }
+        ensures proper { λ r. ⌜ (Proper self → Proper r) ⌝ }
     {
         let mut s = self;
         s.process_preview_data = on;
@@ -62,6 +64,7 @@ impl Settings {
 
     pub fn set_announce_source_discovery(self, on: bool) -> Settings
         ensures { λ r. ⌜ r ≡ withDiscovery on self ⌝ }
+        ensures proper { λ r. ⌜ (Proper self → Proper r) ⌝ }
     {
         let mut s = self;
         s.announce_source_discovery = on;
@@ -70,6 +73,7 @@ impl Settings {
 
     pub fn set_announce_stream_termination(self, on: bool) -> Settings
         ensures { λ r. ⌜ r ≡ withTermination on self ⌝ }
+        ensures proper { λ r. ⌜ (Proper self → Proper r) ⌝ }
     {
         let mut s = self;
         s.announce_stream_termination = on;
@@ -78,6 +82,7 @@ impl Settings {
 
     pub fn set_announce_timeout(self, on: bool) -> Settings
         ensures { λ r. ⌜ r ≡ withTimeout on self ⌝ }
+        ensures proper { λ r. ⌜ (Proper self → Proper r) ⌝ }
     {
         let mut s = self;
         s.announce_timeout = on;
@@ -86,6 +91,7 @@ impl Settings {
 
     pub fn set_merge(self, choice: MergeChoice) -> Settings
         ensures { λ r. ⌜ r ≡ withMerge choice self ⌝ }
+        ensures proper { λ r. ⌜ (Proper self → Proper r) ⌝ }
     {
         let limit = self.source_limit;
         Settings {
@@ -100,6 +106,7 @@ impl Settings {
 
     pub fn clear_source_limit(self) -> Settings
         ensures { λ r. ⌜ r ≡ withoutLimit self ⌝ }
+        ensures proper { λ r. ⌜ (Proper self → Proper r) ⌝ }
     {
         let merge = self.merge;
         Settings {
@@ -115,6 +122,7 @@ impl Settings {
     // A limit of 0 is refused and changes nothing.
     pub fn set_source_limit(self, limit: u16) -> Limited
         ensures { λ r. ⌜ r ≡ limited limit self ⌝ }
+        ensures proper { λ r. ⌜ (Proper self → Proper (r .settings)) ⌝ }
     {
         if limit == 0 {
             return Limited {

@@ -1,15 +1,17 @@
--- The tests of lengths by the comparisons that the code makes: one law for each return.
+-- The tests of lengths by the comparisons that the code makes: one law for each return, and for two tests in a row.
 -- Assumes nothing.
-use mathlib.Core.Path.{_≡_}
-use mathlib.Core.Option.{none, some}
+use mathlib.Core.Path.{_≡_, refl, ap, _∙_}
+use mathlib.Core.Option.{Option, none, some}
 use mathlib.Core.List.{List}
 use Prim.Native.Nat.{ℕ, _+_, _≤_, _<_}
 use native.Mathlib.Omega.{arith}
 use lib.ListN.{length}
 use borrow.Author.Tests.{lt-ltb, le-ltb}
+use Rattle.rules.specs.Answer.{first-of}
 use Rattle.waiting.specs.Records.{most-bytes}
 use Rattle.model.specs.Packet.{over}
 use Rattle.model.specs.Step.{Space, short, too-short, waiting-bytes, page-bytes}
+use Rattle.space.specs.Space.{shortage, excess, first-found}
 
 pub short-some : (needed room : ℕ) → room < needed → short needed room ≡ some needed
 short-some needed room h = rw (lt-ltb room needed h)
@@ -32,29 +34,20 @@ pub over-none : (most : ℕ) (part : List ℕ) → length part ≤ most → over
 unfolding over
 over-none most part h = rw (le-ltb most (length part) h)
 
--- ── a step's memory ──
-pub output-short : (o w p : ℕ) → o < most-bytes → too-short (record { output = o; waiting-values = w; page-universes = p }) ≡ some most-bytes
-output-short o w p h = let e = short-some most-bytes o h in unfold too-short in (rw e)
+-- ── two tests, one before the other ──
+pub shortage-first : (a b : Option ℕ) → first-found (shortage a) (shortage b) ≡ shortage (first-of a b)
+shortage-first none b = refl
+shortage-first (some n) b = refl
 
-pub waiting-short : (o w p : ℕ) → most-bytes ≤ o → w < waiting-bytes
-    → too-short (record { output = o; waiting-values = w; page-universes = p }) ≡ some waiting-bytes
-waiting-short o w p h i =
-    let e = short-none most-bytes o h in
-    let f = short-some waiting-bytes w i in
-    unfold too-short in (rw (e, f))
+pub excess-first : (a b : Option ℕ) → first-found (excess a) (excess b) ≡ excess (first-of a b)
+excess-first none b = refl
+excess-first (some n) b = refl
 
-pub pages-short : (o w n : ℕ) → most-bytes ≤ o → waiting-bytes ≤ w → n < 32768
-    → too-short (record { output = o; waiting-values = w; page-universes = n + n }) ≡ some page-bytes
-pages-short o w n h i j =
-    let e = short-none most-bytes o h in
-    let f = short-none waiting-bytes w i in
-    let g = pages-some n j in
-    unfold too-short in (rw (e, f, g))
-
-pub all-fits : (o w n : ℕ) → most-bytes ≤ o → waiting-bytes ≤ w → 32768 ≤ n
-    → too-short (record { output = o; waiting-values = w; page-universes = n + n }) ≡ none
-all-fits o w n h i j =
-    let e = short-none most-bytes o h in
-    let f = short-none waiting-bytes w i in
-    let g = pages-none n j in
-    unfold too-short in (rw (e, f, g))
+-- output, waiting values, page universes
+pub space-found : (m : Space)
+    → first-found (shortage (short most-bytes (m .output))) (first-found (shortage (short waiting-bytes (m .waiting-values))) (shortage (short page-bytes (m .page-universes))))
+    ≡ shortage (too-short m)
+unfolding too-short
+space-found m =
+    ap (first-found (shortage (short most-bytes (m .output)))) (shortage-first (short waiting-bytes (m .waiting-values)) (short page-bytes (m .page-universes)))
+    ∙ shortage-first (short most-bytes (m .output)) (first-of (short waiting-bytes (m .waiting-values)) (short page-bytes (m .page-universes)))

@@ -27,6 +27,12 @@ abbrev pub excess : Option ℕ → Measured
 excess none = says.Fits
 excess (some n) = says.TooLong n
 
+-- what the first of two tests finds, or else what the second does
+abbrev pub first-found : Measured → Measured → Measured
+first-found says.Fits second = second
+first-found (says.TooLong n) second = says.TooLong n
+first-found (says.TooShort n) second = says.TooShort n
+
 abbrev pub measuredNumber : Measured → ℕ
 measuredNumber says.Fits = 0
 measuredNumber (says.TooLong n) = 1

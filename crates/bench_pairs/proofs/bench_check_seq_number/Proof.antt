@@ -1,4 +1,4 @@
--- What the table's own arrival ensures, with the answer's number.
+-- What the data table's arrival ensures, with the answer's number.
 -- Assumes nothing.
 use mathlib.Core.Path.{_≡_, ap, _∙_}
 use borrow.Author.Needs.{needs}
@@ -14,7 +14,7 @@ number-of-requires c κs = search needs
 
 returns : tie.Need-returns
 returns c =
-    let f = c .before .before .check-seq-number .ensures in
+    let f = c .before .before .before .check-seq-number .ensures in
     record { table-is = f .table-is; answer-is = c .number-of .ensures ∙ ap numberOf (f .answer-is); kept = f .kept }
 
 pub bench-check-seq-number-spec : {M : Type 1} → statement M

@@ -1,31 +1,34 @@
--- One law for each return; the name is tested first.
+-- The name is tested before the list.
 -- Assumes nothing.
-use native.Mathlib.Omega.{arith}
-use Rattle.rules.specs.Answer.{first-of}
+use mathlib.Core.Path.{ap, _∙_}
 use Rattle.model.specs.Packet.{over}
 use Rattle.discovery.specs.Discovery.{most-name, most-universes}
-use Rattle.space.specs.Space.{excess}
-use Rattle.space.specs.Laws.{over-some, over-none}
+use Rattle.space.specs.declared.Measured.{Measured}
+use Rattle.space.specs.Space.{excess, first-found}
+use Rattle.space.specs.Laws.{excess-first}
+use borrow.Author.Needs.{needs}
 use Rattle.space.proofs.test_announcement.Statement.{statement}
 use Rattle.space.proofs.test_announcement.Tie as tie
 
+test-name-requires : tie.Need-test-name-requires
+test-name-requires c κs = search needs
+
+test-list-requires : tie.Need-test-list-requires
+test-list-requires c κs = search needs
+
+first-found-requires : tie.Need-first-found-requires
+first-found-requires c κs = search needs
+
 returns : tie.Need-returns
 returns c =
-    let v = c .before .args in
-    let h = c .if1 .taken in
-    rw (over-some most-name (v .name .now) (omega arith))
-
-returns-2 : tie.Need-returns-2
-returns-2 c =
-    let f = c .before in
-    let v = f .before .args in
-    rw (over-none most-name (v .name .now) (f .if1 .left), over-some most-universes (v .list .now) (c .if2 .taken))
-
-returns-3 : tie.Need-returns-3
-returns-3 c =
-    let f = c .before in
-    let v = f .before .args in
-    rw (over-none most-name (v .name .now) (f .if1 .left), over-none most-universes (v .list .now) (c .if2 .left))
+    let l = c .before in
+    let n = l .before in
+    let v = n .before .before .before .args in
+    c .first-found .ensures
+    ∙ ap (λ (m : Measured). first-found m (l .test-list .result)) (n .test-name .ensures)
+    ∙ ap (first-found (excess (over most-name (v .name .now)))) (l .test-list .ensures)
+    ∙ excess-first (over most-name (v .name .now)) (over most-universes (v .list .now))
 
 pub test-announcement-spec : {M : Type 1} → statement M
-test-announcement-spec = tie.close (tie.spec returns returns-2 returns-3)
+test-announcement-spec =
+    tie.close (tie.spec test-name-requires test-list-requires first-found-requires returns)
