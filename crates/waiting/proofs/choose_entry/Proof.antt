@@ -22,7 +22,7 @@ told k =
     let v = s .args in
     let n = k .before .before .before .count-of in
     let d = k .before .before .before .before .head-of in
-    k .discard-lowest-priority-then-previous .ensures
+    k .discard-lowest-priority-then-previous .ensures .0
     ∙ ap (λ (x : Dmx). choice x (packet s)) (read-entry (v .rows .now) (v .store .now) (v .i) (s .pre .0) (s .pre .1) (d .result) (n .result) (d .ensures) (n .ensures))
 
 mul-row : tie.Need-mul-row
