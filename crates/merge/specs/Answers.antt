@@ -15,7 +15,7 @@ use Rattle.merge.specs.declared.HtpAnswer.{HtpAnswer}
 use Rattle.merge.specs.declared.HtpAnswer.the-variants as htp
 use Rattle.merge.specs.declared.Choice.{Choice}
 use Rattle.merge.specs.declared.Choice.the-variants.{Older, Newer, TooLong}
-use Rattle.merge.specs.Merge.{Dmx, most-values, mergeable, joined, htp-merge, preferred, htp-with, too-long, htp-answer, htp-output, htpNumberOf, htpValuesOf, htp-told, choice, choiceNumberOf, choiceValuesOf, choice-told}
+use Rattle.merge.specs.Merge.{Dmx, most-values, mergeable, joined, htp-merge, preferred, htp-with, too-long, htp-answer, htp-output, htpNumberOf, htpValuesOf, htp-told, choice, choiceNumberOf, choiceValuesOf, choice-told, chosen}
 use Rattle.merge.specs.Returns.{long-neither}
 
 impossible : {C : Type 0} → _≡_ {A = ℕ} 0 1 → C
@@ -38,6 +38,11 @@ module _ (e p : Dmx) where
       split (ltb most-values (length (e .values))) (λ h. cc)
       (λ h. split (ltb most-values (length (p .values))) (λ g. cc)
       (λ g. split (ltb (p .head .priority) (e .head .priority)) (λ l. cc) (λ l. cc)))
+
+-- the part that is handed on where the newer won
+pub newer-chosen : (c : Choice) (xs ys : List ℕ) → c ≡ Newer → chosen c xs ys ≡ ys
+unfolding chosen
+newer-chosen c xs ys e = ap (λ (x : Choice). chosen x xs ys) e
 
 -- of lists within 513 values
 module _ (e p : Dmx) (x : length (e .values) ≤ most-values) (y : length (p .values) ≤ most-values) where

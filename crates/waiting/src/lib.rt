@@ -309,9 +309,12 @@ fn choose_entry(
     let e = head_of(row);
     let a = i * 513;
     let b = a + count_of(row);
-    match merge::discard_lowest_priority_then_previous(e, &store[a..b], packet, values) {
+    let c = merge::discard_lowest_priority_then_previous(e, &store[a..b], packet, values);
+    // The winner's values, where they lie: the older's stay there, and only the newer's are written to the store.
+    let n = merge::chosen_values(c, &store[a..b], values).len();
+    match c {
         Choice::Older => {}
-        Choice::Newer => write_entry(rows, store, i, packet, values),
+        Choice::Newer => write_entry(rows, store, i, packet, &values[..n]),
         Choice::TooLong(_) => {}
     }
 }
