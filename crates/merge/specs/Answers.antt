@@ -13,12 +13,36 @@ use Rattle.table.specs.Cases.{split}
 use Rattle.merge.specs.declared.DmxData.{DmxData}
 use Rattle.merge.specs.declared.HtpAnswer.{HtpAnswer}
 use Rattle.merge.specs.declared.HtpAnswer.the-variants as htp
+use Rattle.merge.specs.declared.Choice.{Choice}
 use Rattle.merge.specs.declared.Choice.the-variants.{Older, Newer, TooLong}
-use Rattle.merge.specs.Merge.{Dmx, most-values, mergeable, joined, htp-merge, preferred, htp-with, htp-answer, htp-output, choice}
+use Rattle.merge.specs.Merge.{Dmx, most-values, mergeable, joined, htp-merge, preferred, htp-with, too-long, htp-answer, htp-output, htpNumberOf, htpValuesOf, htp-told, choice, choiceNumberOf, choiceValuesOf, choice-told, chosen}
 use Rattle.merge.specs.Returns.{long-neither}
 
 impossible : {C : Type 0} → _≡_ {A = ℕ} 0 1 → C
 impossible z = absurd (omega arith)
+
+-- ── the number and the values of each answer, as document 01 tells them ──
+module _ (e p : Dmx) where
+  pub htp-answer-told : (room : ℕ) {r : HtpAnswer} → r ≡ htp-answer room e p → (htpNumberOf r, htpValuesOf r) ≡ htp-told room e p
+  unfolding htp-answer htp-with htp-merge too-long htp-told
+  htp-answer-told room {r} q =
+      split (ltb most-values (length (e .values))) (λ h. cc)
+      (λ h. split (ltb most-values (length (p .values))) (λ g. cc)
+      (λ g. split (mergeable e p)
+      (λ m. split (ltb room (max (length (e .values)) (length (p .values)))) (λ l. cc) (λ l. cc))
+      (λ m. cc)))
+
+  pub choice-answer-told : {r : Choice} → r ≡ choice e p → (choiceNumberOf r, choiceValuesOf r) ≡ choice-told e p
+  unfolding choice too-long choice-told
+  choice-answer-told {r} q =
+      split (ltb most-values (length (e .values))) (λ h. cc)
+      (λ h. split (ltb most-values (length (p .values))) (λ g. cc)
+      (λ g. split (ltb (p .head .priority) (e .head .priority)) (λ l. cc) (λ l. cc)))
+
+-- the part that is handed on where the newer won
+pub newer-chosen : (c : Choice) (xs ys : List ℕ) → c ≡ Newer → chosen c xs ys ≡ ys
+unfolding chosen
+newer-chosen c xs ys e = ap (λ (x : Choice). chosen x xs ys) e
 
 -- of lists within 513 values
 module _ (e p : Dmx) (x : length (e .values) ≤ most-values) (y : length (p .values) ≤ most-values) where

@@ -1,7 +1,7 @@
 -- Document 01, 'Merging'.
 -- Assumes nothing.
 use mathlib.Core.Path.{_≡_}
-use mathlib.Core.Bool.{Bool, true, false, cond, _&&_, _||_}
+use mathlib.Core.Bool.{Bool, true, false, not, cond, _&&_, _||_}
 use mathlib.Core.Option.{Option, none, some}
 use mathlib.Core.List.{List, [], _∷_, _++_}
 use Prim.Native.Nat.{ℕ, _≤_, max}
@@ -107,6 +107,16 @@ htpValuesOf (htp.TooLong n) = number n ∷ []
 htpValuesOf htp.Refused = []
 htpValuesOf (htp.OutputShort n) = number n ∷ []
 
+-- "Called directly, either merge gives 1 for a list over 513, the older tested first. The highest-value merge then gives 8,
+-- then 15 if the output lent for its values is shorter than the longer list": the number, and the length that 1 and 15 return
+unfoldable pub htp-told : ℕ → Dmx → Dmx → ℕ × List Value
+htp-told room e p =
+    cond (ltb 513 (length (e .values))) (1, number (length (e .values)) ∷ [])
+    (cond (ltb 513 (length (p .values))) (1, number (length (p .values)) ∷ [])
+    (cond (not (mergeable e p)) (8, [])
+    (cond (ltb room (max (length (e .values)) (length (p .values)))) (15, number (max (length (e .values)) (length (p .values))) ∷ [])
+    (0, []))))
+
 -- ── `discard_lowest_priority_then_previous` ──
 -- "the older wins only by higher priority"
 unfoldable pub preferred : Dmx → Dmx → Dmx
@@ -133,3 +143,10 @@ abbrev pub choiceValuesOf : Choice → List Value
 choiceValuesOf Older = []
 choiceValuesOf Newer = []
 choiceValuesOf (TooLong n) = number n ∷ []
+
+-- "Called directly, either merge gives 1 for a list over 513, the older tested first."
+unfoldable pub choice-told : Dmx → Dmx → ℕ × List Value
+choice-told e p =
+    cond (ltb 513 (length (e .values))) (1, number (length (e .values)) ∷ [])
+    (cond (ltb 513 (length (p .values))) (1, number (length (p .values)) ∷ [])
+    (0, []))

@@ -6,6 +6,7 @@ ghost use Prim.Native.Nat.{_+_, _≤_, max};
 ghost use lib.ListN.{length};
 ghost use Rattle.table.specs.Parts.{pasted};
 ghost use Rattle.merge.specs.Merge.{mergeable, highest, blended, htp-answer, htp-output, choice, chosen};
+ghost use Rattle.merge.specs.Merge.{htpNumberOf, htpValuesOf, htp-told, choiceNumberOf, choiceValuesOf, choice-told};
 ghost use Rattle.merge.specs.Views.{dmx};
 use rules::Cid;
 
@@ -137,8 +138,12 @@ pub fn htp_dmx_merge(
     newer_values: &[u8],
     out: &mut [u8],
 ) -> HtpAnswer
-    ensures answer { λ r. ⌜ r ≡ htp-answer (length (now (out .entry))) (dmx older (now («older_values» .entry))) (dmx newer (now («newer_values» .entry))) ⌝ }
-    ensures output { λ r. ⌜ now (out .exit) ≡ htp-output r (dmx older (now («older_values» .entry))) (dmx newer (now («newer_values» .entry))) (now (out .entry)) ⌝ }
+    ensures answer { λ r. ⌜ r ≡ htp-answer (length (now (out .entry)))
+        (dmx older (now («older_values» .entry))) (dmx newer (now («newer_values» .entry))) ⌝ }
+    ensures output { λ r. ⌜ now (out .exit) ≡ htp-output r
+        (dmx older (now («older_values» .entry))) (dmx newer (now («newer_values» .entry))) (now (out .entry)) ⌝ }
+    ensures told { λ r. ⌜ (htpNumberOf r, htpValuesOf r) ≡ htp-told (length (now (out .entry)))
+        (dmx older (now («older_values» .entry))) (dmx newer (now («newer_values» .entry))) ⌝ }
 {
     let n = older_values.len();
     let m = newer_values.len();
@@ -179,7 +184,9 @@ pub fn discard_lowest_priority_then_previous(
     newer: DmxData,
     newer_values: &[u8],
 ) -> Choice
-    ensures { λ r. ⌜ r ≡ choice (dmx older (now («older_values» .entry))) (dmx newer (now («newer_values» .entry))) ⌝ }
+    ensures answer { λ r. ⌜ r ≡ choice (dmx older (now («older_values» .entry))) (dmx newer (now («newer_values» .entry))) ⌝ }
+    ensures told { λ r. ⌜ (choiceNumberOf r, choiceValuesOf r)
+        ≡ choice-told (dmx older (now («older_values» .entry))) (dmx newer (now («newer_values» .entry))) ⌝ }
 {
     let n = older_values.len();
     let m = newer_values.len();

@@ -5,7 +5,7 @@ use mathlib.Core.Bool.{Bool, true, false, cond}
 use mathlib.Core.List.{List, [], _∷_, _++_, append-nil}
 use mathlib.Core.Logic.{_≢_}
 use mathlib.Core.Option.{Option, none, some}
-use Prim.Native.Nat.{ℕ, _+_}
+use Prim.Native.Nat.{ℕ, _+_, _≤_}
 use native.Mathlib.Omega.{arith}
 use Rattle.table.specs.Cases.{split, found, clash}
 use native.Mathlib.Nat.{zero-add}
@@ -17,13 +17,20 @@ use Rattle.settings.specs.declared.Settings.{Settings}
 use Rattle.merge.specs.declared.DmxData.{DmxData}
 use Rattle.merge.specs.Merge.{Dmx}
 use Rattle.waiting.specs.declared.StoreAnswer.{StoreAnswer}
+use Rattle.waiting.specs.declared.StoreAnswer.the-variants as storing
+use Rattle.waiting.specs.declared.StoreCall.{StoreCall}
+use Rattle.waiting.specs.declared.StoreCall.the-variants as call
+use Rattle.waiting.specs.declared.ReleaseAnswer.{ReleaseAnswer}
+use Rattle.waiting.specs.declared.ReleaseAnswer.the-variants as releasing
+use Rattle.waiting.specs.Answers.{storeNumberOf, storeValuesOf, releaseNumberOf}
 use Rattle.waiting.specs.Waiting.{cleared, left}
 use Rattle.waiting.specs.Waiting as waiting
 use Rattle.waiting.specs.Records.{encode, records, over}
 use Rattle.waiting.specs.Entries.{waitingOf, lent-none}
 use Rattle.waiting.specs.Entries as entries
 use Rattle.waiting.specs.Written.{Laid, Writing}
-use Rattle.waiting.specs.Calls.{Yields, StoredCall, SweptCall}
+use Rattle.waiting.specs.Calls.{Yields, StoredCall, StoreCalled, taken-is, taken-call, ReleaseCalled, released-is, released-leaves, released-writes, SweptCall}
+use Rattle.model.specs.Answer.{stepNumber}
 use Rattle.listening.specs.declared.Listened.{Listened}
 use Rattle.listening.specs.declared.ListenDone.{ListenDone}
 use Rattle.listening.specs.View.{listenedOf, Listens}
@@ -38,7 +45,7 @@ use Rattle.model.specs.Step.{Outcome, outcome, illegal, joined-by, most-listene
 use Rattle.steps.specs.declared.DataPacket.{DataPacket}
 use Rattle.pairs.specs.declared.Checked.{Checked}
 use Rattle.pairs.specs.declared.Checked.the-variants as checked
-use Rattle.pairs.specs.Table.{Table, Key, key, check, sweep}
+use Rattle.pairs.specs.Table.{Table, Key, key, check, sweep, numberOf, valuesOf}
 use Rattle.rules.specs.declared.Cid.{Cid}
 use Rattle.pairs.specs.declared.SweepAnswer.{SweepAnswer}
 use Rattle.pairs.specs.declared.SweepAnswer.the-variants.{Quiet, TimedOut}
@@ -48,7 +55,27 @@ use Rattle.sequences.specs.Laws.{answer-some, answer-none}
 use Rattle.sequences.specs.Sequences.{Numbers, numbers, timeouts, timeouts-data, timeouts-sync}
 use Rattle.pairs.specs.View as counted
 use Rattle.pairs.specs.View.{Rows}
-use Rattle.steps.specs.View.{packetOf, dataOf, Lent, lentOf, waits, hears, Releases, Ready, Holds, Accepts, Counted, rowsOf, counts, Kept-counted, releaseSaid, Arrives, Synchronises, Polls}
+use Rattle.steps.specs.View.{packetOf, dataOf, Lent, lentOf, waits, hears, Releases, Ready, Holds, Accepts, Counted, rowsOf, counts, Kept-counted, Tells, storeSaid, releaseSaid, Arrives, Synchronises, Polls}
+
+-- ── the answers of the parts, told by the step ──
+pub store-tells : (c : StoreCall) → Tells (storeSaid c) (storeNumberOf c) (storeValuesOf c)
+store-tells (call.Taken storing.Stored) = record { number-is = refl; values-are = λ own. refl }
+store-tells (call.Taken storing.MergeRefused) = record { number-is = refl; values-are = λ own. refl }
+store-tells (call.Taken storing.WaitingFull) = record { number-is = refl; values-are = λ own. refl }
+store-tells (call.TooLong n) = record { number-is = refl; values-are = λ own. refl }
+
+pub stop-tells : (a : Checked) → Tells (stopped a) (numberOf a) (valuesOf a)
+stop-tells checked.Accepted = record { number-is = refl; values-are = λ own. refl }
+stop-tells (checked.UniverseTimeout c u) = record { number-is = refl; values-are = λ own. refl }
+stop-tells (checked.SourcesExceeded n) = record { number-is = refl; values-are = λ own. refl }
+stop-tells (checked.OutOfSequence a l d) = record { number-is = refl; values-are = λ own. refl }
+stop-tells checked.PairsFull = record { number-is = refl; values-are = λ own. refl }
+stop-tells checked.SourceWithoutPairs = record { number-is = refl; values-are = λ own. refl }
+
+-- a release's number; its values are told where records are left
+pub release-tells : (a : ReleaseAnswer) → stepNumber (releaseSaid a) ≡ releaseNumberOf a
+release-tells (releasing.Released n b) = split (eqb n 0) (λ h. rw h) (λ h. rw h)
+release-tells (releasing.OutputShort n) = refl
 
 -- one record
 one-record : (d : Dmx) → records (d ∷ []) ≡ encode d
@@ -136,6 +163,15 @@ module _ (S : Settings) (now : ℕ) (d : model.DataPacket) (m : Lent) (kw : entr
           let u : waiting.stored (S .merge) (dmx now d) (s .waiting) .0 ≡ waitingOf n′ rows′ store′ = ap (λ (y : List Dmx × StoreAnswer). y .0) x ∙ sym (c .yields .view) in
           let v : waiting.stored (S .merge) (dmx now d) (s .waiting) .1 ≡ a = ap (λ (y : List Dmx × StoreAnswer). y .1) x ∙ sym (c .answers) in
           λ i. record { state = with-waiting (u i) (with-listened (listenedOf (r .listened) heard′) s); answer = kept (v i); released = [] }
+
+  -- values within 513 are taken
+  pub holds-called : (n′ : ℕ) (rows′ : Rows) (store′ : List ℕ) (c : StoreCall) → r .answer ≡ listen.Listening → length (d .values) ≤ 513
+      → StoreCalled (m .count) (m .rows) (m .store) (S .merge) (dmx now d) rows′ store′ n′ c
+      → Holds S now d m (lentOf n′ (r .listened) rows′ store′ heard′) (storeSaid c)
+  holds-called n′ rows′ store′ c e f k =
+      subst (λ (a : StepAnswer). Holds S now d m (lentOf n′ (r .listened) rows′ store′ heard′) a)
+      (ap storeSaid (sym (taken-is (m .count) (m .rows) (m .store) (S .merge) (dmx now d) rows′ store′ n′ f c k)))
+      (holds-stored n′ rows′ store′ (waiting.stored (S .merge) (dmx now d) (waits m) .1) e (taken-call (m .count) (m .rows) (m .store) (S .merge) (dmx now d) rows′ store′ n′ f c k))
 
 -- ── an accepted packet ──
 module _ (S : Settings) (now : ℕ) (d : model.DataPacket) (m : Lent) (out : List ℕ) where
@@ -227,11 +263,11 @@ module _ (S : Settings) (now : ℕ) (d : model.DataPacket) (k k′ : Counted) (a
 
 -- ── synchronisation ──
 release-said : (ds : List Dmx) (s : State) (n b : ℕ) → n ≡ length ds → b ≡ length (records ds)
-    → release ds s ≡ record { state = s; answer = releaseSaid n b; released = ds }
+    → release ds s ≡ record { state = s; answer = releaseSaid (releasing.Released n b); released = ds }
 unfolding release
-release-said [] s n b p q = λ i. record { state = s; answer = releaseSaid (sym p i) b; released = [] }
+release-said [] s n b p q = λ i. record { state = s; answer = releaseSaid (releasing.Released (sym p i) b); released = [] }
 release-said (x ∷ ds) s n b p q =
-    let e : _≡_ {A = StepAnswer} (says.Released (length (x ∷ ds)) (length (records (x ∷ ds)))) (releaseSaid n b) =
+    let e : _≡_ {A = StepAnswer} (says.Released (length (x ∷ ds)) (length (records (x ∷ ds)))) (releaseSaid (releasing.Released n b)) =
     (λ i. says.Released (sym p i) (sym q i)) ∙ sym (rw (ne-eqb n 0 (omega arith))) in
     λ i. record { state = s; answer = e i; released = x ∷ ds }
 
@@ -250,17 +286,17 @@ module _ (S : Settings) (now : ℕ) (y : model.SyncPacket) (k k′ : Counted) (a
     taken-out : (n′ : ℕ) (rows′ : Rows) (store′ : List ℕ) (c b : ℕ) → left (y .address) (waitingOf n rows store) ≡ waitingOf n′ rows′ store′
         → c ≡ length (waiting.released now (y .address) (waitingOf n rows store)) → b ≡ length (records (waiting.released now (y .address) (waitingOf n rows store)))
         → (s : State) → s .waiting ≡ waitingOf n rows store
-        → synchronise now (y .address) s ≡ record { state = with-waiting (waitingOf n′ rows′ store′) s; answer = releaseSaid c b; released = waiting.released now (y .address) (waitingOf n rows store) }
+        → synchronise now (y .address) s ≡ record { state = with-waiting (waitingOf n′ rows′ store′) s; answer = releaseSaid (releasing.Released c b); released = waiting.released now (y .address) (waitingOf n rows store) }
     unfolding synchronise
     taken-out n′ rows′ store′ c b v p q s e =
         (λ i. release (waiting.released now (y .address) (e i)) (with-waiting (left (y .address) (e i)) s))
         ∙ release-said (waiting.released now (y .address) (waitingOf n rows store)) (with-waiting (left (y .address) (waitingOf n rows store)) s) c b p q
-        ∙ (λ i. record { state = with-waiting (v i) s; answer = releaseSaid c b; released = waiting.released now (y .address) (waitingOf n rows store) })
+        ∙ (λ i. record { state = with-waiting (v i) s; answer = releaseSaid (releasing.Released c b); released = waiting.released now (y .address) (waitingOf n rows store) })
 
     pub synchronises : (n′ : ℕ) (rows′ : Rows) (store′ out′ : List ℕ) (c b : ℕ) → counted.accepted a ≡ true
         → Yields rows store rows′ store′ n′ (left (y .address) (waitingOf n rows store))
         → Writing (waiting.released now (y .address) (waitingOf n rows store)) out out′ c b
-        → Synchronises S now y k n rows store out k′ n′ rows′ store′ out′ (releaseSaid c b)
+        → Synchronises S now y k n rows store out k′ n′ rows′ store′ out′ (releaseSaid (releasing.Released c b))
     synchronises n′ rows′ store′ out′ c b e v w = record {
       released = waiting.released now (y .address) (waitingOf n rows store);
       outcome-is = λ s p q. sync-said s p ∙ goes a _ _ e ∙ taken-out n′ rows′ store′ c b (sym (v .view)) (w .record-count) (w .byte-count) (with-sync (counts k′) s) q;
@@ -269,6 +305,18 @@ module _ (S : Settings) (now : ℕ) (y : model.SyncPacket) (k k′ : Counted) (a
       kept-waiting = v .kept;
       lent-waiting = v .lent;
     }
+
+    -- an output with room is written
+    pub synchronises-called : (n′ : ℕ) (rows′ : Rows) (store′ out′ : List ℕ) (r : ReleaseAnswer) → counted.accepted a ≡ true → 35072 ≤ length out
+        → ReleaseCalled n rows store now (y .address) out rows′ store′ out′ n′ r
+        → Synchronises S now y k n rows store out k′ n′ rows′ store′ out′ (releaseSaid r)
+    synchronises-called n′ rows′ store′ out′ r e f c =
+        let ds = waiting.released now (y .address) (waitingOf n rows store) in
+        subst (λ (w : StepAnswer). Synchronises S now y k n rows store out k′ n′ rows′ store′ out′ w)
+        (ap releaseSaid (sym (released-is n rows store now (y .address) out rows′ store′ out′ n′ f r c)))
+        (synchronises n′ rows′ store′ out′ (length ds) (length (records ds)) e
+        (released-leaves n rows store now (y .address) out rows′ store′ out′ n′ f r c)
+        (released-writes n rows store now (y .address) out rows′ store′ out′ n′ f r c))
 
     pub synchronises-stopped : counted.accepted a ≡ false → entries.Kept n rows store → Synchronises S now y k n rows store out k′ n rows store out (stopped a)
     unfolding records

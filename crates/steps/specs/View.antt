@@ -7,10 +7,15 @@ use mathlib.Core.Option.{Option}
 use Prim.Native.Nat.{ℕ}
 use lib.Dec.{eqb}
 use lib.ListN.{length}
+use Rattle.rules.specs.Answer.{Value}
 use Rattle.settings.specs.declared.Settings.{Settings}
 use Rattle.merge.specs.declared.DmxData.{DmxData}
 use Rattle.merge.specs.declared.SourceCid.the-variants.{Of}
 use Rattle.merge.specs.Merge.{Dmx}
+use Rattle.waiting.specs.declared.StoreCall.{StoreCall}
+use Rattle.waiting.specs.declared.StoreCall.the-variants as call
+use Rattle.waiting.specs.declared.ReleaseAnswer.{ReleaseAnswer}
+use Rattle.waiting.specs.declared.ReleaseAnswer.the-variants as releasing
 use Rattle.waiting.specs.Waiting.{cleared}
 use Rattle.waiting.specs.Records.{records, over}
 use Rattle.waiting.specs.Entries.{waitingOf}
@@ -28,9 +33,10 @@ use Rattle.sequences.specs.declared.SequenceNumbering.{SequenceNumbering}
 use Rattle.sequences.specs.View as numbered
 use Rattle.model.specs.declared.StepAnswer.{StepAnswer}
 use Rattle.model.specs.declared.StepAnswer.the-variants as says
+use Rattle.model.specs.Answer.{stepNumber, stepValues}
 use Rattle.model.specs.Packet as model
 use Rattle.model.specs.State.{State}
-use Rattle.model.specs.Step.{Outcome, with-data, with-sync, with-waiting, with-listened, dmx, synchronised, accepted, data-arrival, sync-arrival, poll}
+use Rattle.model.specs.Step.{Outcome, with-data, with-sync, with-waiting, with-listened, dmx, kept, synchronised, accepted, data-arrival, sync-arrival, poll}
 use Rattle.steps.specs.declared.DataPacket.{DataPacket}
 use Rattle.steps.specs.declared.SyncPacket.{SyncPacket}
 
@@ -90,6 +96,16 @@ pub record Ready (m m′ : Lent) : Type 0 where
   pub lent-waiting : waiting.Lent (m .rows) (m .store) (m′ .rows) (m′ .store)
   pub kept-listened : listening.Kept (m′ .listened) (m′ .heard)
 
+-- a step's answer has this number and these values, whatever name the packet in hand has
+pub record Tells (answer : StepAnswer) (n : ℕ) (vs : List Value) : Type 0 where
+  pub number-is : stepNumber answer ≡ n
+  pub values-are : (own : List ℕ) → stepValues own answer ≡ vs
+
+-- what storing answers
+abbrev pub storeSaid : StoreCall → StepAnswer
+storeSaid (call.Taken a) = kept a
+storeSaid (call.TooLong n) = says.TooLong n
+
 -- a packet held
 pub record Holds (S : Settings) (now : ℕ) (d : model.DataPacket) (m m′ : Lent) (answer : StepAnswer) : Type 0 where
   pub outcome-is : (s : State) → s .waiting ≡ waits m → s .listened ≡ hears m
@@ -128,9 +144,10 @@ pub record Arrives (S : Settings) (now : ℕ) (d : model.DataPacket) (k : Counte
   pub kept : Kept-counted k′
   pub ready : Ready m m′
 
--- what a release answers
-abbrev pub releaseSaid : ℕ → ℕ → StepAnswer
-releaseSaid n b = cond (eqb n 0) says.Nothing (says.Released n b)
+-- what a release answers: "release, or nothing if none is left"
+abbrev pub releaseSaid : ReleaseAnswer → StepAnswer
+releaseSaid (releasing.Released n b) = cond (eqb n 0) says.Nothing (says.Released n b)
+releaseSaid (releasing.OutputShort n) = says.TooShort n
 
 -- an arriving synchronisation packet
 pub record Synchronises (S : Settings) (now : ℕ) (y : model.SyncPacket) (k : Counted) (n : ℕ) (rows : Rows) (store out : List ℕ) (k′ : Counted) (n′ : ℕ) (rows′ : Rows) (store′ out′ : List ℕ) (answer : StepAnswer) : Type 0 where

@@ -4,10 +4,13 @@ ghost use Prim.Native.Nat.{_≤_};
 ghost use lib.ListN.{length};
 ghost use Rattle.waiting.specs.Entries as held;
 ghost use Rattle.listening.specs.View as hearing;
-ghost use Rattle.model.specs.Step.{kept, stopped};
+ghost use Rattle.waiting.specs.Answers.{storeNumberOf, storeValuesOf, releaseNumberOf};
+ghost use Rattle.model.specs.Answer.{stepNumber};
+ghost use Rattle.model.specs.Step.{stopped};
+ghost use Rattle.pairs.specs.Table.{numberOf, valuesOf};
 ghost use Rattle.pairs.specs.View as counted;
 ghost use Rattle.sequences.specs.View as numbered;
-ghost use Rattle.steps.specs.View.{packetOf, dataOf, syncOf, lentOf, rowsOf, releaseSaid, Releases, Holds, Accepts, Arrives, Synchronises, Polls};
+ghost use Rattle.steps.specs.View.{packetOf, dataOf, syncOf, lentOf, rowsOf, Tells, storeSaid, releaseSaid, Releases, Holds, Accepts, Arrives, Synchronises, Polls};
 use listening::Listened;
 use merge::DmxData;
 use merge::SourceCid;
@@ -23,7 +26,9 @@ use rules::DataSequence;
 use rules::SyncSequence;
 use sequences::SequenceNumbering;
 use settings::Settings;
+use waiting::ReleaseAnswer;
 use waiting::StoreAnswer;
+use waiting::StoreCall;
 use waiting::Waiting;
 use waiting::write_record;
 
@@ -45,19 +50,19 @@ pub struct SyncPacket {
     pub sequence: SyncSequence,
 }
 
-pub struct PacketReleased {
-    pub waiting: Waiting,
-    pub bytes: usize,
+struct PacketReleased {
+    waiting: Waiting,
+    bytes: usize,
 }
 
-pub struct Accepted {
-    pub waiting: Waiting,
-    pub listened: Listened,
-    pub answer: StepAnswer,
+struct Accepted {
+    waiting: Waiting,
+    listened: Listened,
+    answer: StepAnswer,
 }
 
 // The packet's fields as data received at this reading.
-pub fn dmx_data(packet: DataPacket, reading: u64) -> DmxData
+fn dmx_data(packet: DataPacket, reading: u64) -> DmxData
     ensures { λ r. ⌜ r ≡ dataOf packet reading ⌝ }
 {
     let cid = packet.cid;
@@ -72,18 +77,22 @@ pub fn dmx_data(packet: DataPacket, reading: u64) -> DmxData
 }
 
 // What storing answers, as the step's answer.
-pub fn stored_answer(a: StoreAnswer) -> StepAnswer
-    ensures { λ r. ⌜ r ≡ kept a ⌝ }
+fn stored_answer(a: StoreCall) -> StepAnswer
+    ensures answer { λ r. ⌜ r ≡ storeSaid a ⌝ }
+    ensures told { λ r. ⌜ Tells r (storeNumberOf a) (storeValuesOf a) ⌝ }
 {
     match a {
-        StoreAnswer::Stored => StepAnswer::Nothing,
-        StoreAnswer::MergeRefused => StepAnswer::DmxMergeError,
-        StoreAnswer::WaitingFull => StepAnswer::WaitingFull,
+        StoreCall::Taken(s) => match s {
+            StoreAnswer::Stored => StepAnswer::Nothing,
+            StoreAnswer::MergeRefused => StepAnswer::DmxMergeError,
+            StoreAnswer::WaitingFull => StepAnswer::WaitingFull,
+        },
+        StoreCall::TooLong(n) => StepAnswer::TooLong(n),
     }
 }
 
 // Address 0: this universe's waiting data goes, and the packet is released.
-pub fn release_packet(
+fn release_packet(
     waiting: Waiting,
     rows: &mut [[u64; 9]; 64],
     store: &mut [u8],
@@ -106,7 +115,7 @@ pub fn release_packet(
 }
 
 // Another address: it is listened to, and the packet waits for its synchronisation.
-pub fn hold_packet(
+fn hold_packet(
     waiting: Waiting,
     listened: Listened,
     rows: &mut [[u64; 9]; 64],
@@ -151,7 +160,7 @@ pub fn hold_packet(
 }
 
 // A data packet whose sequence is stored: released at once, or held.
-pub fn accept_data(
+fn accept_data(
     waiting: Waiting,
     listened: Listened,
     rows: &mut [[u64; 9]; 64],
@@ -216,8 +225,9 @@ pub struct Polled {
 }
 
 // What stops an arrival, as the step's answer.
-pub fn stop_answer(a: Checked) -> StepAnswer
-    ensures { λ r. ⌜ r ≡ stopped a ⌝ }
+fn stop_answer(a: Checked) -> StepAnswer
+    ensures answer { λ r. ⌜ r ≡ stopped a ⌝ }
+    ensures told { λ r. ⌜ Tells r (numberOf a) (valuesOf a) ⌝ }
 {
     match a {
         Checked::Accepted => StepAnswer::Nothing,
@@ -229,14 +239,20 @@ pub fn stop_answer(a: Checked) -> StepAnswer
     }
 }
 
-// A release's answer: nothing where none is left.
-pub fn release_answer(records: usize, bytes: usize) -> StepAnswer
-    ensures { λ r. ⌜ r ≡ releaseSaid records bytes ⌝ }
+// A release's answer, as the step's: nothing where none is left.
+fn release_answer(a: ReleaseAnswer) -> StepAnswer
+    ensures answer { λ r. ⌜ r ≡ releaseSaid a ⌝ }
+    ensures told { λ r. ⌜ stepNumber r ≡ releaseNumberOf a ⌝ }
 {
-    if records == 0 {
-        return StepAnswer::Nothing;
+    match a {
+        ReleaseAnswer::Released(records, bytes) => {
+            if records == 0 {
+                return StepAnswer::Nothing;
+            }
+            StepAnswer::Released(records, bytes)
+        }
+        ReleaseAnswer::OutputShort(n) => StepAnswer::TooShort(n),
     }
-    StepAnswer::Released(records, bytes)
 }
 
 // A data packet for a listened universe: its sequence, then what an accepted packet does.
@@ -337,7 +353,8 @@ pub fn arrive_sync(
     if is_accepted(said) {
         let r = waiting.rtrv_waiting_data(rows, store, packet.address, reading, out);
         let w = r.waiting;
-        let answer = release_answer(r.records, r.bytes);
+        let told = r.answer;
+        let answer = release_answer(told);
         return SyncArrived {
             sync: next,
             waiting: w,

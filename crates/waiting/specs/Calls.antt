@@ -1,28 +1,36 @@
 -- What each call shows: the waiting data that it makes, in order and within its count, and the memory that it keeps.
 -- Assumes nothing.
-use mathlib.Core.Path.{_≡_, refl, sym, ap, _∙_}
+use mathlib.Core.Path.{_≡_, refl, sym, ap, _∙_, subst}
 use mathlib.Core.Bool.{Bool, true, false, not}
 use mathlib.Core.Option.{Option, none, some}
 use mathlib.Core.List.{List, []}
 use Prim.Native.Nat.{ℕ, _+_, _-_, _*_, _≤_, _<_}
 use native.Mathlib.Omega.{arith}
-use lib.Dec.{ltb}
+use lib.Dec.{ltb, leb}
 use lib.ListN.{length, take, drop, getD, set, replicate, length-take, List·getD-eq-default}
 use lib.Seq.{getD-take}
-use borrow.Author.Tests.{le-leb, lt-leb, ltb-true, ltb-false}
-use Rattle.table.specs.Cases.{split, clash}
+use borrow.Author.Tests.{le-leb, lt-leb, lt-ltb, le-ltb, ltb-true, ltb-false}
+use Rattle.table.specs.Cases.{split, clash, found}
 use Rattle.table.specs.Order.{ℕ-order}
 use Rattle.table.specs.Table.{keep, any, store as put, remove, Ascending, keep-all, remove-absent}
 use Rattle.table.specs.Place.{prefix, prefix-le, place, insertAt, removeAt, absent-end, absent, present, store-insert, store-replace, remove-place}
 use Rattle.table.specs.Arrays.{replace}
 use Rattle.settings.specs.declared.MergeChoice.{MergeChoice}
 use Rattle.merge.specs.declared.DmxData.{DmxData}
-use Rattle.merge.specs.Merge.{Dmx}
+use Rattle.merge.specs.Merge.{Dmx, most-values}
 use Rattle.rules.specs.Age.{expired}
 use Rattle.waiting.specs.declared.StoreAnswer.{StoreAnswer}
 use Rattle.waiting.specs.declared.StoreAnswer.the-variants.{Stored, MergeRefused, WaitingFull}
+use Rattle.waiting.specs.declared.StoreCall.{StoreCall}
+use Rattle.waiting.specs.declared.StoreCall.the-variants.{Taken, TooLong}
+use Rattle.waiting.specs.declared.ReleaseAnswer.{ReleaseAnswer}
+use Rattle.waiting.specs.declared.ReleaseAnswer.the-variants.{Released, OutputShort}
 use Rattle.waiting.specs.declared.Found.the-variants.{At, Before}
-use Rattle.waiting.specs.Waiting.{universeOf, waitingFor, capacity, merged, stored, cleared, held, fresh, swept, left, of-address}
+use Rattle.waiting.specs.Waiting.{universeOf, waitingFor, capacity, merged, joining, stored, released, cleared, held, fresh, swept, left, of-address}
+use Rattle.waiting.specs.Records.{records}
+use Rattle.waiting.specs.Answers.{store-call, storeNumberOf, storeValuesOf, universe-told, store-told}
+use Rattle.waiting.specs.Answers.{release-length, release-call, release-output, releaseNumberOf, releaseValuesOf, release-told}
+use Rattle.waiting.specs.Written.{Writing}
 use Rattle.waiting.specs.Laws.{ordered-stored, ordered-cleared, ordered-swept, ordered-left, stored-merged, stored-refused, stored-full, stored-new, merged-universe}
 use Rattle.waiting.specs.Entries.{headOf, countOf, entries, nothing, waitingOf, Room, Kept, Lent, lent-none, lent-then, lent-room, kept-ordered, length-waiting, prefix-entries, any-entries}
 use Rattle.waiting.specs.Posts.{Held, Joined, below, Sought}
@@ -35,11 +43,27 @@ pub record Yields (rows : List (List ℕ)) (store : List ℕ) (rows′ : List (L
   pub lent : Lent rows store rows′ store′
   pub view : waitingOf n rows′ store′ ≡ ds
 
--- `store_waiting_data` with the answer
+-- storing values within 513, with the answer
 pub record StoredCall (n : ℕ) (rows : List (List ℕ)) (store : List ℕ) (choice : MergeChoice) (p : Dmx) (rows′ : List (List ℕ)) (store′ : List ℕ) (m : ℕ) (a : StoreAnswer) : Type 0 where
   pub yields : Yields rows store rows′ store′ m (stored choice p (waitingOf n rows store) .0)
   pub answers : a ≡ stored choice p (waitingOf n rows store) .1
   pub full-unchanged : a ≡ WaitingFull → (rows′ ≡ rows) × (store′ ≡ store)
+
+-- `store_waiting_data`; values over 513 leave all
+pub record StoreCalled (n : ℕ) (rows : List (List ℕ)) (store : List ℕ) (choice : MergeChoice) (p : Dmx) (rows′ : List (List ℕ)) (store′ : List ℕ) (m : ℕ) (c : StoreCall) : Type 0 where
+  pub yields : Yields rows store rows′ store′ m (store-call choice p (waitingOf n rows store) .0)
+  pub answers : c ≡ store-call choice p (waitingOf n rows store) .1
+  pub told : (storeNumberOf c, storeValuesOf c) ≡ store-told choice p (waitingOf n rows store)
+  pub full-unchanged : c ≡ Taken WaitingFull → (rows′ ≡ rows) × (store′ ≡ store)
+  pub long-unchanged : 513 < length (p .values) → (m ≡ n) × (rows′ ≡ rows) × (store′ ≡ store)
+
+-- `rtrv_waiting_data`; an output that is too short leaves all
+pub record ReleaseCalled (n : ℕ) (rows : List (List ℕ)) (store : List ℕ) (now a : ℕ) (out : List ℕ) (rows′ : List (List ℕ)) (store′ out′ : List ℕ) (m : ℕ) (r : ReleaseAnswer) : Type 0 where
+  pub yields : Yields rows store rows′ store′ m (release-call (length out) now a (waitingOf n rows store) .0)
+  pub answers : r ≡ release-call (length out) now a (waitingOf n rows store) .1
+  pub told : (releaseNumberOf r, releaseValuesOf r) ≡ release-told (length out) now a (waitingOf n rows store)
+  pub written : out′ ≡ release-output now a (waitingOf n rows store) out
+  pub short-unchanged : length out < 35072 → (m ≡ n) × (rows′ ≡ rows) × (store′ ≡ store) × (out′ ≡ out)
 
 -- `check_waiting_data_timeouts`; where nothing is expired, nothing is written
 pub record SweptCall (n : ℕ) (rows : List (List ℕ)) (store : List ℕ) (now : ℕ) (rows′ : List (List ℕ)) (store′ : List ℕ) (m : ℕ) : Type 0 where
@@ -205,6 +229,118 @@ module _ (n : ℕ) (rows : List (List ℕ)) (store : List ℕ) (k : Kept n rows 
   leaves a rows′ store′ m h c =
       let b = k .count-fits in
       yield n m rows rows′ store store′ (keep (λ (d : Dmx). not (of-address a d)) ds) k (c .lends) (omega arith) (c .holds) (unfold left in ordered-left a ds (kept-ordered k) .ascends)
+
+-- ── `store_waiting_data`, with the test of the values before it ──
+store-answer-told : (choice : MergeChoice) (p : Dmx) (ds : List Dmx) (c : StoreCall) → c ≡ store-call choice p ds .1
+    → (storeNumberOf c, storeValuesOf c) ≡ store-told choice p ds
+unfolding store-call store-told universe-told stored joining
+store-answer-told choice p ds c e =
+    split (ltb most-values (length (p .values))) (λ h. cc)
+    (λ h. found (waitingFor (universeOf p) ds)
+    (λ w. split (leb capacity (length ds)) (λ f. cc) (λ f. cc))
+    (λ d w. found (merged choice d p) (λ m. cc) (λ x m. cc)))
+
+module _ (n : ℕ) (rows : List (List ℕ)) (store : List ℕ) (choice : MergeChoice) (p : Dmx) where
+  within-call : length (p .values) ≤ most-values
+      → store-call choice p (waitingOf n rows store) ≡ (stored choice p (waitingOf n rows store) .0, Taken (stored choice p (waitingOf n rows store) .1))
+  unfolding store-call
+  within-call f = rw (le-ltb most-values (length (p .values)) f)
+
+  long-call : most-values < length (p .values) → store-call choice p (waitingOf n rows store) ≡ (waitingOf n rows store, TooLong (length (p .values)))
+  unfolding store-call
+  long-call h = rw (lt-ltb most-values (length (p .values)) h)
+
+  pub called-long : Kept n rows store → most-values < length (p .values) → StoreCalled n rows store choice p rows store n (TooLong (length (p .values)))
+  called-long k h =
+      let q = long-call h in
+      let e = ap (λ (x : List Dmx × StoreCall). x .1) (sym q) in
+      record {
+        yields = unchanged n rows store (store-call choice p (waitingOf n rows store) .0) k (ap (λ (x : List Dmx × StoreCall). x .0) (sym q));
+        answers = e;
+        told = store-answer-told choice p (waitingOf n rows store) (TooLong (length (p .values))) e;
+        full-unchanged = λ z. (refl, refl);
+        long-unchanged = λ z. (refl, refl, refl);
+      }
+
+  module _ (rows′ : List (List ℕ)) (store′ : List ℕ) (m : ℕ) (f : length (p .values) ≤ most-values) where
+    pub called-taken : (a : StoreAnswer) → StoredCall n rows store choice p rows′ store′ m a → StoreCalled n rows store choice p rows′ store′ m (Taken a)
+    called-taken a c =
+        let q = within-call f in
+        let e = ap Taken (c .answers) ∙ ap (λ (x : List Dmx × StoreCall). x .1) (sym q) in
+        record {
+          yields = subst (λ (ds : List Dmx). Yields rows store rows′ store′ m ds) (ap (λ (x : List Dmx × StoreCall). x .0) (sym q)) (c .yields);
+          answers = e;
+          told = store-answer-told choice p (waitingOf n rows store) (Taken a) e;
+          full-unchanged = λ z. c .full-unchanged (cc);
+          long-unchanged = λ z. absurd (omega arith);
+        }
+
+    -- for callers: values within 513 are taken
+    pub taken-is : (c : StoreCall) → StoreCalled n rows store choice p rows′ store′ m c → c ≡ Taken (stored choice p (waitingOf n rows store) .1)
+    taken-is c s = s .answers ∙ ap (λ (x : List Dmx × StoreCall). x .1) (within-call f)
+
+    pub taken-call : (c : StoreCall) → StoreCalled n rows store choice p rows′ store′ m c → StoredCall n rows store choice p rows′ store′ m (stored choice p (waitingOf n rows store) .1)
+    taken-call c s = record {
+      yields = subst (λ (ds : List Dmx). Yields rows store rows′ store′ m ds) (ap (λ (x : List Dmx × StoreCall). x .0) (within-call f)) (s .yields);
+      answers = refl;
+      full-unchanged = λ z. s .full-unchanged (taken-is c s ∙ ap Taken z);
+    }
+
+-- ── `rtrv_waiting_data`, with the test of the output before it ──
+release-answer-told : (room now a : ℕ) (ds : List Dmx) (r : ReleaseAnswer) → r ≡ release-call room now a ds .1
+    → (releaseNumberOf r, releaseValuesOf r) ≡ release-told room now a ds
+unfolding release-call release-told
+release-answer-told room now a ds r e = split (ltb room release-length) (λ h. cc) (λ h. cc)
+
+module _ (n : ℕ) (rows : List (List ℕ)) (store : List ℕ) (now a : ℕ) (out : List ℕ) where
+  abbrev due : List Dmx
+  due = released now a (waitingOf n rows store)
+
+  pub called-short : Kept n rows store → length out < release-length → ReleaseCalled n rows store now a out rows store out n (OutputShort release-length)
+  called-short k h =
+      let q : release-call (length out) now a (waitingOf n rows store) ≡ (waitingOf n rows store, OutputShort release-length) = unfold release-call in (rw (lt-ltb (length out) release-length h)) in
+      let e = ap (λ (x : List Dmx × ReleaseAnswer). x .1) (sym q) in
+      record {
+        yields = unchanged n rows store (release-call (length out) now a (waitingOf n rows store) .0) k (ap (λ (x : List Dmx × ReleaseAnswer). x .0) (sym q));
+        answers = e;
+        told = release-answer-told (length out) now a (waitingOf n rows store) (OutputShort release-length) e;
+        written = unfold release-output in (rw (lt-ltb (length out) release-length h));
+        short-unchanged = λ z. (refl, refl, refl, refl);
+      }
+
+  module _ (rows′ : List (List ℕ)) (store′ out′ : List ℕ) (m : ℕ) (f : release-length ≤ length out) where
+    roomy-call : release-call (length out) now a (waitingOf n rows store) ≡ (left a (waitingOf n rows store), Released (length due) (length (records due)))
+    unfolding release-call
+    roomy-call = rw (le-ltb (length out) release-length f)
+
+    pub called-released : (c b : ℕ) → Yields rows store rows′ store′ m (left a (waitingOf n rows store)) → Writing due out out′ c b
+        → ReleaseCalled n rows store now a out rows′ store′ out′ m (Released c b)
+    called-released c b y w =
+        let q = roomy-call in
+        let e = (λ i. Released (w .record-count i) (w .byte-count i)) ∙ ap (λ (x : List Dmx × ReleaseAnswer). x .1) (sym q) in
+        record {
+          yields = subst (λ (ds : List Dmx). Yields rows store rows′ store′ m ds) (ap (λ (x : List Dmx × ReleaseAnswer). x .0) (sym q)) y;
+          answers = e;
+          told = release-answer-told (length out) now a (waitingOf n rows store) (Released c b) e;
+          written = unfold release-output in (rw (le-ltb (length out) release-length f) (w .written));
+          short-unchanged = λ z. absurd (omega arith);
+        }
+
+    -- for callers: an output with room is written
+    module _ (r : ReleaseAnswer) (s : ReleaseCalled n rows store now a out rows′ store′ out′ m r) where
+      pub released-is : r ≡ Released (length due) (length (records due))
+      released-is = s .answers ∙ ap (λ (x : List Dmx × ReleaseAnswer). x .1) roomy-call
+
+      pub released-leaves : Yields rows store rows′ store′ m (left a (waitingOf n rows store))
+      released-leaves = subst (λ (ds : List Dmx). Yields rows store rows′ store′ m ds) (ap (λ (x : List Dmx × ReleaseAnswer). x .0) roomy-call) (s .yields)
+
+      pub released-writes : Writing due out out′ (length due) (length (records due))
+      unfolding release-output
+      released-writes = record {
+        written = s .written ∙ (rw (le-ltb (length out) release-length f));
+        record-count = refl;
+        byte-count = refl;
+      }
 
 -- a place to insert at is within the count
 pub before-within : (u n i : ℕ) (rows : List (List ℕ)) → Sought u n rows (Before i) → i ≤ n

@@ -1,5 +1,6 @@
 pub mod Waiting
 pub mod Records
+pub mod Answers
 pub mod Laws
 pub mod Entries
 pub mod Posts

@@ -11,15 +11,16 @@ ghost use Rattle.table.specs.Place.{prefix, insertAt, removeAt};
 ghost use Rattle.table.specs.Parts.{pasted};
 ghost use Rattle.merge.specs.Merge.{Dmx, htp-merge, preferred};
 ghost use Rattle.merge.specs.Views.{dmx};
-ghost use Rattle.waiting.specs.Waiting.{merged, cleared, released, left};
+ghost use Rattle.waiting.specs.Waiting.{merged, cleared, released};
 ghost use Rattle.waiting.specs.Records.{bit};
 ghost use Rattle.waiting.specs.Entries.{headOf, countOf, ownerOf, rowOf, entries, nothing, waitingOf, Room, Kept};
 ghost use Rattle.waiting.specs.Posts.{Rowed, Changed, Held, Joined, below, Apart, retained, Sought};
 ghost use Rattle.waiting.specs.Written.{frontBytes, backBytes, due, Laid, Writing};
-ghost use Rattle.waiting.specs.Calls.{Empty, Yields, StoredCall, SweptCall};
+ghost use Rattle.waiting.specs.Calls.{Empty, Yields, StoreCalled, ReleaseCalled, SweptCall};
 use merge::Choice;
 use merge::DmxData;
 use merge::HtpAnswer;
+use merge::MOST_VALUES;
 use merge::SourceCid;
 use rules::Cid;
 use settings::MergeChoice;
@@ -32,6 +33,24 @@ pub enum StoreAnswer {
     // Number 12: 64 other universes wait.
     WaitingFull,
 }
+
+// What a call of `store_waiting_data` answers.
+pub enum StoreCall {
+    Taken(StoreAnswer),
+    // Number 1: values over 513.
+    TooLong(usize),
+}
+
+// What a call of `rtrv_waiting_data` answers.
+pub enum ReleaseAnswer {
+    // The records and bytes that the output has.
+    Released(usize, usize),
+    // Number 15: the length needed.
+    OutputShort(usize),
+}
+
+// The output that a release needs: 64 records of 35 bytes and 513 values.
+pub const RELEASE_LENGTH: usize = 35072;
 
 // A flag as a word.
 fn word_of(on: bool) -> u64
@@ -290,9 +309,12 @@ fn choose_entry(
     let e = head_of(row);
     let a = i * 513;
     let b = a + count_of(row);
-    match merge::discard_lowest_priority_then_previous(e, &store[a..b], packet, values) {
+    let c = merge::discard_lowest_priority_then_previous(e, &store[a..b], packet, values);
+    // The winner's values, where they lie: the older's stay there, and only the newer's are written to the store.
+    let n = merge::chosen_values(c, &store[a..b], values).len();
+    match c {
         Choice::Older => {}
-        Choice::Newer => write_entry(rows, store, i, packet, values),
+        Choice::Newer => write_entry(rows, store, i, packet, &values[..n]),
         Choice::TooLong(_) => {}
     }
 }
@@ -488,7 +510,7 @@ pub struct Waiting {
 
 pub struct Stored {
     pub waiting: Waiting,
-    pub answer: StoreAnswer,
+    pub answer: StoreCall,
 }
 
 pub struct Cleared {
@@ -496,11 +518,9 @@ pub struct Cleared {
     pub held: bool,
 }
 
-// A release: what is left, and how many records and bytes the output has.
 pub struct Released {
     pub waiting: Waiting,
-    pub records: usize,
-    pub bytes: usize,
+    pub answer: ReleaseAnswer,
 }
 
 impl Waiting {
@@ -516,7 +536,7 @@ impl Waiting {
         Waiting { count: 0 }
     }
 
-    // Stored alone, or merged with what waits for its universe; a refused merge loses both.
+    // Stored alone, or merged with what waits for its universe; a refused merge loses both. Values over 513 leave all.
     pub fn store_waiting_data(
         self,
         rows: &mut [[u64; 9]; 64],
@@ -525,35 +545,44 @@ impl Waiting {
         packet: DmxData,
         values: &[u8],
     ) -> Stored
-        requires { ⌜ Kept (self .count) (now rows) (now store) × (length (now values) ≤ 513) ⌝ }
-        ensures { λ r. ⌜ StoredCall (self .count) (now (rows .entry)) (now (store .entry)) choice (dmx packet (now (values .entry))) (now (rows .exit)) (now (store .exit)) (r .waiting .count) (r .answer) ⌝ }
+        requires { ⌜ Kept (self .count) (now rows) (now store) ⌝ }
+        ensures { λ r. ⌜ StoreCalled (self .count) (now (rows .entry)) (now (store .entry)) choice (dmx packet (now (values .entry)))
+            (now (rows .exit)) (now (store .exit)) (r .waiting .count) (r .answer) ⌝ }
     {
         let n = self.count;
+        if MOST_VALUES < values.len() {
+            return Stored {
+                waiting: Waiting { count: n },
+                answer: StoreCall::TooLong(values.len()),
+            };
+        }
         match find_universe(&*rows, n, packet.universe) {
             Found::At(i) => {
                 if join_entry(&mut *rows, &mut *store, i, choice, packet, values) {
                     return Stored {
                         waiting: Waiting { count: n },
-                        answer: StoreAnswer::Stored,
+                        answer: StoreCall::Taken(StoreAnswer::Stored),
                     };
                 }
                 remove_at(&mut *rows, &mut *store, n, i);
+                let fewer = n - 1;
                 Stored {
-                    waiting: Waiting { count: n - 1 },
-                    answer: StoreAnswer::MergeRefused,
+                    waiting: Waiting { count: fewer },
+                    answer: StoreCall::Taken(StoreAnswer::MergeRefused),
                 }
             }
             Found::Before(i) => {
                 if 64 <= n {
                     return Stored {
                         waiting: Waiting { count: n },
-                        answer: StoreAnswer::WaitingFull,
+                        answer: StoreCall::Taken(StoreAnswer::WaitingFull),
                     };
                 }
                 insert_at(&mut *rows, &mut *store, n, i, packet, values);
+                let more = n + 1;
                 Stored {
-                    waiting: Waiting { count: n + 1 },
-                    answer: StoreAnswer::Stored,
+                    waiting: Waiting { count: more },
+                    answer: StoreCall::Taken(StoreAnswer::Stored),
                 }
             }
         }
@@ -605,7 +634,8 @@ impl Waiting {
         Waiting { count: n }
     }
 
-    // All data of one address leaves, by ascending universe; what is not expired goes to the output as records.
+    // All data of one address leaves, by ascending universe; what is not expired goes to the output as records. An output
+    // that is too short leaves all.
     pub fn rtrv_waiting_data(
         self,
         rows: &mut [[u64; 9]; 64],
@@ -614,17 +644,22 @@ impl Waiting {
         reading: u64,
         out: &mut [u8],
     ) -> Released
-        requires { ⌜ Kept (self .count) (now rows) (now store) × (35072 ≤ length (now out)) ⌝ }
-        ensures view { λ r. ⌜ Yields (now (rows .entry)) (now (store .entry)) (now (rows .exit)) (now (store .exit)) (r .waiting .count) (left address (waitingOf (self .count) (now (rows .entry)) (now (store .entry)))) ⌝ }
-        ensures output { λ r. ⌜ Writing (released reading address (waitingOf (self .count) (now (rows .entry)) (now (store .entry)))) (now (out .entry)) (now (out .exit)) (r .records) (r .bytes) ⌝ }
+        requires { ⌜ Kept (self .count) (now rows) (now store) ⌝ }
+        ensures { λ r. ⌜ ReleaseCalled (self .count) (now (rows .entry)) (now (store .entry)) reading address (now (out .entry))
+            (now (rows .exit)) (now (store .exit)) (now (out .exit)) (r .waiting .count) (r .answer) ⌝ }
     {
         let n = self.count;
+        if out.len() < RELEASE_LENGTH {
+            return Released {
+                waiting: Waiting { count: n },
+                answer: ReleaseAnswer::OutputShort(RELEASE_LENGTH),
+            };
+        }
         let w = write_release(&*rows, &*store, n, address, reading, &mut *out);
         let m = compact(&mut *rows, &mut *store, n, Retain::OtherThan(address));
         Released {
             waiting: Waiting { count: m },
-            records: w.records,
-            bytes: w.bytes,
+            answer: ReleaseAnswer::Released(w.records, w.bytes),
         }
     }
 

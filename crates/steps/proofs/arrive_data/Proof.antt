@@ -54,7 +54,7 @@ returns-2 c =
     let a = rowsOf (v .«data» .table) (v .pairs .now) (v .sources .now) in
     let b = rowsOf (k .check-seq-number .result .table .table) (k .check-seq-number .last .1 .0) (k .check-seq-number .last .1 .1 .0) in
     let d = packetOf (v .packet) (v .values .now) in
-    subst (λ (w : StepAnswer). Arrives (v .settings) (v .reading) d a m (v .out .now) b m (v .out .now) w) (sym (c .stop-answer .ensures))
+    subst (λ (w : StepAnswer). Arrives (v .settings) (v .reading) d a m (v .out .now) b m (v .out .now) w) (sym (c .stop-answer .ensures .0))
     (arrives-stopped (v .settings) (v .reading) d a b (k .check-seq-number .result .answer) (k .check-seq-number .ensures) m (v .out .now)
     (sym (i .is-accepted .ensures) ∙ c .before .if1 .left) (s .pre .1) (s .pre .2))
 

@@ -3,7 +3,7 @@
 use mathlib.Core.Path.{sym, subst, _∙_}
 use Rattle.model.specs.declared.StepAnswer.{StepAnswer}
 use Rattle.steps.specs.View.{syncOf, rowsOf, Synchronises}
-use Rattle.steps.specs.Laws.{synchronises, synchronises-stopped}
+use Rattle.steps.specs.Laws.{synchronises-called, synchronises-stopped}
 use borrow.Author.Needs.{needs}
 use Rattle.steps.proofs.arrive_sync.Statement.{statement}
 use Rattle.steps.proofs.arrive_sync.Tie as tie
@@ -38,13 +38,14 @@ returns c =
     let t = c .before .before .before .before .before .before .before .before .before .before in
     let i = c .before .before .before .before .before .before .before .before .before .before .before in
     let k = c .before .before .before .before .before .before .before .before .before .before .before .before .before in
-    let v = c .before .before .before .before .before .before .before .before .before .before .before .before .before .before .before .before .before .before .before .args in
+    let s = c .before .before .before .before .before .before .before .before .before .before .before .before .before .before .before .before .before .before .before in
+    let v = s .args in
     let a = rowsOf (v .sync .table) (v .pairs .now) (v .sources .now) in
     let b = rowsOf (k .check-seq-number .result .table .table) (k .check-seq-number .last .1 .0) (k .check-seq-number .last .1 .1 .0) in
-    subst (λ (w : StepAnswer). Synchronises (v .settings) (v .reading) (syncOf (v .packet)) a (v .waiting .count) (v .rows .now) (v .store .now) (v .out .now) b (r .rtrv-waiting-data .result .waiting .count) (r .rtrv-waiting-data .last .1 .0) (r .rtrv-waiting-data .last .1 .1 .0) (r .rtrv-waiting-data .last .1 .1 .1 .1 .1 .0) w) (sym (c .release-answer .ensures))
-    (synchronises (v .settings) (v .reading) (syncOf (v .packet)) a b (k .check-seq-number .result .answer) (k .check-seq-number .ensures) (v .waiting .count) (v .rows .now) (v .store .now) (v .out .now)
-    (r .rtrv-waiting-data .result .waiting .count) (r .rtrv-waiting-data .last .1 .0) (r .rtrv-waiting-data .last .1 .1 .0) (r .rtrv-waiting-data .last .1 .1 .1 .1 .1 .0) (r .rtrv-waiting-data .result .records) (r .rtrv-waiting-data .result .bytes)
-    (sym (i .is-accepted .ensures) ∙ t .if1 .taken) (r .rtrv-waiting-data .ensures .0) (r .rtrv-waiting-data .ensures .1))
+    subst (λ (w : StepAnswer). Synchronises (v .settings) (v .reading) (syncOf (v .packet)) a (v .waiting .count) (v .rows .now) (v .store .now) (v .out .now) b (r .rtrv-waiting-data .result .waiting .count) (r .rtrv-waiting-data .last .1 .0) (r .rtrv-waiting-data .last .1 .1 .0) (r .rtrv-waiting-data .last .1 .1 .1 .1 .1 .0) w) (sym (c .release-answer .ensures .0))
+    (synchronises-called (v .settings) (v .reading) (syncOf (v .packet)) a b (k .check-seq-number .result .answer) (k .check-seq-number .ensures) (v .waiting .count) (v .rows .now) (v .store .now) (v .out .now)
+    (r .rtrv-waiting-data .result .waiting .count) (r .rtrv-waiting-data .last .1 .0) (r .rtrv-waiting-data .last .1 .1 .0) (r .rtrv-waiting-data .last .1 .1 .1 .1 .1 .0) (r .rtrv-waiting-data .result .answer)
+    (sym (i .is-accepted .ensures) ∙ t .if1 .taken) (s .pre .2) (r .rtrv-waiting-data .ensures))
 
 stop-answer-requires : tie.Need-stop-answer-requires
 stop-answer-requires c κs = search needs
@@ -57,7 +58,7 @@ returns-2 c =
     let v = s .args in
     let a = rowsOf (v .sync .table) (v .pairs .now) (v .sources .now) in
     let b = rowsOf (k .check-seq-number .result .table .table) (k .check-seq-number .last .1 .0) (k .check-seq-number .last .1 .1 .0) in
-    subst (λ (w : StepAnswer). Synchronises (v .settings) (v .reading) (syncOf (v .packet)) a (v .waiting .count) (v .rows .now) (v .store .now) (v .out .now) b (v .waiting .count) (v .rows .now) (v .store .now) (v .out .now) w) (sym (c .stop-answer .ensures))
+    subst (λ (w : StepAnswer). Synchronises (v .settings) (v .reading) (syncOf (v .packet)) a (v .waiting .count) (v .rows .now) (v .store .now) (v .out .now) b (v .waiting .count) (v .rows .now) (v .store .now) (v .out .now) w) (sym (c .stop-answer .ensures .0))
     (synchronises-stopped (v .settings) (v .reading) (syncOf (v .packet)) a b (k .check-seq-number .result .answer) (k .check-seq-number .ensures) (v .waiting .count) (v .rows .now) (v .store .now) (v .out .now)
     (sym (i .is-accepted .ensures) ∙ c .before .if1 .left) (s .pre .1))
 

@@ -3,11 +3,11 @@
 use mathlib.Core.Path.{sym, subst}
 use Rattle.merge.specs.declared.DmxData.{DmxData}
 use Rattle.merge.specs.Views.{dmx}
-use Rattle.waiting.specs.Calls.{StoredCall}
+use Rattle.waiting.specs.Calls.{StoreCalled}
 use Rattle.model.specs.declared.StepAnswer.{StepAnswer}
 use Rattle.model.specs.Step as model
 use Rattle.steps.specs.View.{packetOf, lentOf, Holds}
-use Rattle.steps.specs.Laws.{holds-illegal, holds-full, holds-stored}
+use Rattle.steps.specs.Laws.{holds-illegal, holds-full, holds-called}
 use borrow.Author.Needs.{needs}
 use Rattle.steps.proofs.hold_packet.Statement.{statement}
 use Rattle.steps.proofs.hold_packet.Tie as tie
@@ -68,11 +68,11 @@ returns-3 c =
     let v = s .args in
     let m = lentOf (v .waiting .count) (v .listened) (v .rows .now) (v .store .now) (v .heard .now) in
     let p = packetOf (v .packet) (v .values .now) in
-    let k : StoredCall (m .count) (m .rows) (m .store) (v .settings .merge) (model.dmx (v .reading) p) (q .store-waiting-data .last .1 .0) (q .store-waiting-data .last .1 .1 .0) (q .store-waiting-data .result .waiting .count) (q .store-waiting-data .result .answer) =
-    subst (λ (x : DmxData). StoredCall (m .count) (m .rows) (m .store) (v .settings .merge) (dmx x (v .values .now)) (q .store-waiting-data .last .1 .0) (q .store-waiting-data .last .1 .1 .0) (q .store-waiting-data .result .waiting .count) (q .store-waiting-data .result .answer)) (d .dmx-data .ensures) (q .store-waiting-data .ensures) in
-    let g = holds-stored (v .settings) (v .reading) p m (s .pre .0) (h .listen-universe .result) (h .listen-universe .last .1 .0) (h .listen-universe .ensures)
-    (q .store-waiting-data .result .waiting .count) (q .store-waiting-data .last .1 .0) (q .store-waiting-data .last .1 .1 .0) (q .store-waiting-data .result .answer) (t .enum-told2 .given .1) k in
-    subst (λ (a : StepAnswer). Holds (v .settings) (v .reading) p m (lentOf (q .store-waiting-data .result .waiting .count) (h .listen-universe .result .listened) (q .store-waiting-data .last .1 .0) (q .store-waiting-data .last .1 .1 .0) (h .listen-universe .last .1 .0)) a) (sym (c .stored-answer .ensures)) g
+    let k : StoreCalled (m .count) (m .rows) (m .store) (v .settings .merge) (model.dmx (v .reading) p) (q .store-waiting-data .last .1 .0) (q .store-waiting-data .last .1 .1 .0) (q .store-waiting-data .result .waiting .count) (q .store-waiting-data .result .answer) =
+    subst (λ (x : DmxData). StoreCalled (m .count) (m .rows) (m .store) (v .settings .merge) (dmx x (v .values .now)) (q .store-waiting-data .last .1 .0) (q .store-waiting-data .last .1 .1 .0) (q .store-waiting-data .result .waiting .count) (q .store-waiting-data .result .answer)) (d .dmx-data .ensures) (q .store-waiting-data .ensures) in
+    let g = holds-called (v .settings) (v .reading) p m (s .pre .0) (h .listen-universe .result) (h .listen-universe .last .1 .0) (h .listen-universe .ensures)
+    (q .store-waiting-data .result .waiting .count) (q .store-waiting-data .last .1 .0) (q .store-waiting-data .last .1 .1 .0) (q .store-waiting-data .result .answer) (t .enum-told2 .given .1) (s .pre .2) k in
+    subst (λ (a : StepAnswer). Holds (v .settings) (v .reading) p m (lentOf (q .store-waiting-data .result .waiting .count) (h .listen-universe .result .listened) (q .store-waiting-data .last .1 .0) (q .store-waiting-data .last .1 .1 .0) (h .listen-universe .last .1 .0)) a) (sym (c .stored-answer .ensures .0)) g
 
 pub hold-packet-spec : {M : Type 1} → statement M
 hold-packet-spec =

@@ -119,7 +119,7 @@ returns c =
     let v = s .args in
     let n = k .before .before .before .before .count-of in
     let d = k .before .before .before .before .before .head-of in
-    let o = k .htp-dmx-merge .ensures .1
+    let o = k .htp-dmx-merge .ensures .1 .0
     ∙ ap (λ (x : Dmx). htp-output (k .htp-dmx-merge .result) x (packet s) lent)
     (read-entry (v .rows .now) (v .store .now) (v .i) (s .pre .0) (s .pre .1) (d .result) (n .result) (d .ensures) (n .ensures)) in
     blend-merged (v .rows .now) (v .store .now) (v .i) (s .pre .0) (s .pre .1) (packet s) (s .pre .2) 513 (m .write-entry .last .0) (m .write-entry .last .1 .0) (a .d .given .0 .0) (a .d .given .0 .1 .0)
