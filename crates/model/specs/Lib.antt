@@ -4,4 +4,5 @@ pub mod State
 pub mod Step
 pub mod Calls
 pub mod Examples
+pub mod ListenExamples
 pub mod Invariant

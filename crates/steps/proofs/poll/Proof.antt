@@ -32,7 +32,7 @@ returns c =
     let k = c .before .before .before .before .before .before .before .before in
     let v = c .before .before .before .before .before .before .before .before .before .before .before .before .before .before .args in
     polls-quiet (v .settings) (v .reading) (v .sequences) (lent (v .data-pairs .now) (v .data-sources .now) (v .sync-pairs .now) (v .sync-sources .now)) (v .waiting .count) (v .rows .now) (v .store .now)
-    (k .check-timeouts .result .sequences) (lent (k .check-timeouts .last .1 .0) (k .check-timeouts .last .1 .1 .0) (k .check-timeouts .last .1 .1 .1 .0) (k .check-timeouts .last .1 .1 .1 .1 .0)) (k .check-timeouts .result .answer) (k .check-timeouts .ensures)
+    (k .check-timeouts .result .sequences) (lent (k .check-timeouts .last .1 .0) (k .check-timeouts .last .1 .1 .0) (k .check-timeouts .last .1 .1 .1 .0) (k .check-timeouts .last .1 .1 .1 .1 .0)) (k .check-timeouts .result .answer) (k .check-timeouts .ensures .0)
     (w .check-waiting-data-timeouts .result .count) (w .check-waiting-data-timeouts .last .1 .0) (w .check-waiting-data-timeouts .last .1 .1 .0) (e .enum-told .given .1) (w .check-waiting-data-timeouts .ensures)
 
 returns-2 : tie.Need-returns-2
@@ -41,7 +41,7 @@ returns-2 c =
     let s = c .before .before .before .before .before .before .before .before .before .before in
     let v = s .args in
     polls-told (v .settings) (v .reading) (v .sequences) (lent (v .data-pairs .now) (v .data-sources .now) (v .sync-pairs .now) (v .sync-sources .now)) (v .waiting .count) (v .rows .now) (v .store .now)
-    (k .check-timeouts .result .sequences) (lent (k .check-timeouts .last .1 .0) (k .check-timeouts .last .1 .1 .0) (k .check-timeouts .last .1 .1 .1 .0) (k .check-timeouts .last .1 .1 .1 .1 .0)) (k .check-timeouts .result .answer) (k .check-timeouts .ensures)
+    (k .check-timeouts .result .sequences) (lent (k .check-timeouts .last .1 .0) (k .check-timeouts .last .1 .1 .0) (k .check-timeouts .last .1 .1 .1 .0) (k .check-timeouts .last .1 .1 .1 .1 .0)) (k .check-timeouts .result .answer) (k .check-timeouts .ensures .0)
     _ _ (c .before .said .given .1) (s .pre .1)
 
 pub poll-spec : {M : Type 1} → statement M

@@ -18,7 +18,7 @@ same-length : tie.Need-same-length
 same-length c = search needs
 
 returns : tie.Need-returns
-returns c = λ m. carries-fresh (c .before .before .before .before .before .new .ensures m) (sized-heard (c .before .before .before .before .before .new .last .0)) (c .before .before .before .before .new2 .ensures) (c .before .before .put-number .ensures)
+returns c = λ m. carries-fresh (c .before .before .before .before .before .new .ensures m) (sized-heard (c .before .before .before .before .before .new .last .0)) (c .before .before .before .before .new2 .ensures .0) (c .before .before .put-number .ensures)
 
 pub begin-spec : {M : Type 1} → statement M
 begin-spec =

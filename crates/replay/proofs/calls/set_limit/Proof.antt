@@ -22,7 +22,7 @@ same-length c = search needs
 
 returns : tie.Need-returns
 returns c = λ m.
-    let e = c .before .before .before .before .before .set-source-limit .ensures in
+    let e = c .before .before .before .before .before .set-source-limit .ensures .0 in
     carries-same refl (ap (λ (l : Limited). l .settings) e) (tells-as (ap (λ (l : Limited). answerLine (numberOf (l .answer)) []) e) (c .before .before .put-limit .ensures))
 
 pub set-limit-spec : {M : Type 1} → statement M

@@ -79,7 +79,7 @@ returns c = λ m.
     let c2 = c1 .before .before in
     let c3 = c2 .before .before in
     let c4 = c3 .before .before .before .before in
-    carries-as (ap (λ (x : Setting). adjusted x (c4 .args .session .settings) (stateOf (c4 .args .session .receiver) m)) (sym (c3 .setting .given .1))) (carries-as (ap (λ (S : Settings). set-to S (stateOf (c4 .args .session .receiver) m)) (c2 .set-process-preview-data .ensures)) (c1 .set .ensures m))
+    carries-as (ap (λ (x : Setting). adjusted x (c4 .args .session .settings) (stateOf (c4 .args .session .receiver) m)) (sym (c3 .setting .given .1))) (carries-as (ap (λ (S : Settings). set-to S (stateOf (c4 .args .session .receiver) m)) (c2 .set-process-preview-data .ensures .0)) (c1 .set .ensures m))
 
 same-length-2 : tie.Need-same-length-2
 same-length-2 c = search needs
@@ -90,7 +90,7 @@ returns-2 c = λ m.
     let c2 = c1 .before .before in
     let c3 = c2 .before .before in
     let c4 = c3 .before .before .before .before in
-    carries-as (ap (λ (x : Setting). adjusted x (c4 .args .session .settings) (stateOf (c4 .args .session .receiver) m)) (sym (c3 .setting2 .given .1))) (carries-as (ap (λ (S : Settings). set-to S (stateOf (c4 .args .session .receiver) m)) (c2 .set-announce-source-discovery .ensures)) (c1 .set2 .ensures m))
+    carries-as (ap (λ (x : Setting). adjusted x (c4 .args .session .settings) (stateOf (c4 .args .session .receiver) m)) (sym (c3 .setting2 .given .1))) (carries-as (ap (λ (S : Settings). set-to S (stateOf (c4 .args .session .receiver) m)) (c2 .set-announce-source-discovery .ensures .0)) (c1 .set2 .ensures m))
 
 same-length-3 : tie.Need-same-length-3
 same-length-3 c = search needs
@@ -101,7 +101,7 @@ returns-3 c = λ m.
     let c2 = c1 .before .before in
     let c3 = c2 .before .before in
     let c4 = c3 .before .before .before .before in
-    carries-as (ap (λ (x : Setting). adjusted x (c4 .args .session .settings) (stateOf (c4 .args .session .receiver) m)) (sym (c3 .setting3 .given .1))) (carries-as (ap (λ (S : Settings). set-to S (stateOf (c4 .args .session .receiver) m)) (c2 .set-announce-stream-termination .ensures)) (c1 .set3 .ensures m))
+    carries-as (ap (λ (x : Setting). adjusted x (c4 .args .session .settings) (stateOf (c4 .args .session .receiver) m)) (sym (c3 .setting3 .given .1))) (carries-as (ap (λ (S : Settings). set-to S (stateOf (c4 .args .session .receiver) m)) (c2 .set-announce-stream-termination .ensures .0)) (c1 .set3 .ensures m))
 
 same-length-4 : tie.Need-same-length-4
 same-length-4 c = search needs
@@ -112,7 +112,7 @@ returns-4 c = λ m.
     let c2 = c1 .before .before in
     let c3 = c2 .before .before in
     let c4 = c3 .before .before .before .before in
-    carries-as (ap (λ (x : Setting). adjusted x (c4 .args .session .settings) (stateOf (c4 .args .session .receiver) m)) (sym (c3 .setting4 .given .1))) (carries-as (ap (λ (S : Settings). set-to S (stateOf (c4 .args .session .receiver) m)) (c2 .set-announce-timeout .ensures)) (c1 .set4 .ensures m))
+    carries-as (ap (λ (x : Setting). adjusted x (c4 .args .session .settings) (stateOf (c4 .args .session .receiver) m)) (sym (c3 .setting4 .given .1))) (carries-as (ap (λ (S : Settings). set-to S (stateOf (c4 .args .session .receiver) m)) (c2 .set-announce-timeout .ensures .0)) (c1 .set4 .ensures m))
 
 same-length-5 : tie.Need-same-length-5
 same-length-5 c = search needs
@@ -123,7 +123,7 @@ returns-5 c = λ m.
     let c2 = c1 .before .before in
     let c3 = c2 .before .before in
     let c4 = c3 .before .before .before .before in
-    carries-as (ap (λ (x : Setting). adjusted x (c4 .args .session .settings) (stateOf (c4 .args .session .receiver) m)) (sym (c3 .setting5 .given .1))) (carries-as (ap (λ (S : Settings). set-to S (stateOf (c4 .args .session .receiver) m)) (c2 .set-merge .ensures)) (c1 .set5 .ensures m))
+    carries-as (ap (λ (x : Setting). adjusted x (c4 .args .session .settings) (stateOf (c4 .args .session .receiver) m)) (sym (c3 .setting5 .given .1))) (carries-as (ap (λ (S : Settings). set-to S (stateOf (c4 .args .session .receiver) m)) (c2 .set-merge .ensures .0)) (c1 .set5 .ensures m))
 
 same-length-6 : tie.Need-same-length-6
 same-length-6 c = search needs
@@ -134,7 +134,7 @@ returns-6 c = λ m.
     let c2 = c1 .before .before in
     let c3 = c2 .before in
     let c4 = c3 .before .before .before .before in
-    carries-as (ap (λ (x : Setting). adjusted x (c4 .args .session .settings) (stateOf (c4 .args .session .receiver) m)) (sym (c3 .enum-told .given .1))) (carries-as (ap (λ (S : Settings). set-to S (stateOf (c4 .args .session .receiver) m)) (c2 .clear-source-limit .ensures)) (c1 .set6 .ensures m))
+    carries-as (ap (λ (x : Setting). adjusted x (c4 .args .session .settings) (stateOf (c4 .args .session .receiver) m)) (sym (c3 .enum-told .given .1))) (carries-as (ap (λ (S : Settings). set-to S (stateOf (c4 .args .session .receiver) m)) (c2 .clear-source-limit .ensures .0)) (c1 .set6 .ensures m))
 
 same-length-7 : tie.Need-same-length-7
 same-length-7 c = search needs
