@@ -17,9 +17,10 @@ ghost use Rattle.model.specs.Step.{listed};
 ghost use Rattle.model.specs.Calls.{poll-call, expiry-call, listen-call, mute-call, clear-call, clear-all-call, reset-call};
 ghost use Rattle.space.specs.Space.{bytes};
 ghost use Rattle.steps.specs.View.{packetOf, syncOf};
-ghost use Rattle.receiver.specs.View.{Memory, memory, with-numbers, with-sync-numbers, with-held, with-heard, with-found, stateOf, announcementOf, pool-length, longOf, Kept, Opens, Ends, Takes, Steps, Begins, Does, Becomes};
+ghost use Rattle.receiver.specs.View.{Memory, memory, with-numbers, with-sync-numbers, with-held, with-heard, with-found, stateOf, announcementOf, pool-length, longOf, Kept, Opens, Ends, called, Tells, Takes, Steps, Begins, Does, Becomes};
 use discovery::Discovery;
 use discovery::PageAnswer;
+use discovery::PageCall;
 use listening::Listened;
 use model::ClearAnswer;
 use model::ExpiryAnswer;
@@ -112,6 +113,17 @@ fn listed_answer(a: PageAnswer, settings: Settings) -> StepAnswer
             StepAnswer::Nothing
         }
         PageAnswer::PagesFull => StepAnswer::PagesFull,
+    }
+}
+
+// What the call for a page answers, as the step's answer.
+fn called_answer(a: PageCall, settings: Settings) -> StepAnswer
+    ensures answer { λ r. ⌜ r ≡ called settings a ⌝ }
+    ensures told { λ r. ⌜ Tells a r ⌝ }
+{
+    match a {
+        PageCall::Done(p) => listed_answer(p, settings),
+        PageCall::TooLong(n) => StepAnswer::TooLong(n),
     }
 }
 
@@ -284,7 +296,7 @@ impl Receiver {
         );
         let discovery = a.discovery;
         let said = a.answer;
-        let answer = listed_answer(said, settings);
+        let answer = called_answer(said, settings);
         let receiver = Receiver {
             sequences,
             waiting,
