@@ -12,7 +12,7 @@ use lib.ListN.{length}
 use borrow.Author.Tests.{ltb-false}
 use Rattle.table.specs.Cases.{split, found, clash, missing}
 use Rattle.rules.specs.declared.Cid.{Cid}
-use Rattle.rules.specs.Answer.{first-of}
+use Rattle.rules.specs.Answer.{Value, first-of}
 use Rattle.settings.specs.declared.Settings.{Settings}
 use Rattle.pairs.specs.View.{Rows, answerOf, sweepNumberOf, sweepValuesOf}
 use Rattle.pairs.specs.Table.{Key, key, pairAt}
@@ -53,8 +53,10 @@ use Rattle.model.specs.Step as model
 use Rattle.model.specs.Step.{Space, outcome, short, too-short, page-bytes, poll, polled, data-step, terminated, sync-step, discovery-step, listed, packet-step, step}
 use Rattle.steps.specs.View.{Polls, Arrives, Synchronises, rowsOf, lentOf}
 use Rattle.receiver.specs.declared.Receiver.{Receiver}
+use Rattle.receiver.specs.declared.Course.{Course}
+use Rattle.receiver.specs.declared.Course.the-variants as course
 use Rattle.receiver.specs.declared.DiscoveryPacket.{DiscoveryPacket}
-use Rattle.receiver.specs.View.{Memory, numbersIn, with-numbers, with-sync-numbers, with-held, with-heard, with-found, stateOf, spaceIn, pool-length, Kept, longOf, announcementOf, openingNumber, openingValues, Opens, Ends, called, Tells, Takes, Steps}
+use Rattle.receiver.specs.View.{Memory, numbersIn, with-numbers, with-sync-numbers, with-held, with-heard, with-found, stateOf, spaceIn, pool-length, Kept, longOf, announcementOf, opening, courseOf, Opens, Ends, called, Tells, Takes, Steps}
 
 -- ── lengths ──
 pub short-of : (x : Measured) (o : Option ℕ) (n : ℕ) → x ≡ shortage o → x ≡ measured.TooShort n → o ≡ some n
@@ -163,8 +165,7 @@ module _ (S : Settings) (now : ℕ) (long : Option ℕ) (r : Receiver) (m : Memo
     kept = λ k. k;
     lent-waiting = lent-none (m .rows) (m .store);
     lent-pages = pool.lent-none (m .universes);
-    number-is = ap (λ (x : Option ℕ). openingNumber x long (poll S now (stateOf r m) .1)) (sym z);
-    values-are = λ own. ap (λ (x : Option ℕ). openingValues x long (poll S now (stateOf r m) .1)) (sym z);
+    told = λ own i. opening (sym z i) long (poll S now (stateOf r m) .1);
   }
 
   pub opens-long : (n : ℕ) → too-short (spaceIn m out) ≡ none → long ≡ some n → Opens S now long r m out r m true (says.TooLong n)
@@ -176,8 +177,7 @@ module _ (S : Settings) (now : ℕ) (long : Option ℕ) (r : Receiver) (m : Memo
     kept = λ k. k;
     lent-waiting = lent-none (m .rows) (m .store);
     lent-pages = pool.lent-none (m .universes);
-    number-is = λ i. openingNumber (sym z i) (sym l i) (poll S now (stateOf r m) .1);
-    values-are = λ own i. openingValues (sym z i) (sym l i) (poll S now (stateOf r m) .1);
+    told = λ own i. opening (sym z i) (sym l i) (poll S now (stateOf r m) .1);
   }
 
   module _ {q : SequenceNumbering} {n : numbered.Lent} {w : Waiting} {rows : Rows} {store : List ℕ} {a : SweepAnswer} (z : too-short (spaceIn m out) ≡ none) (l : long ≡ none)
@@ -201,11 +201,11 @@ module _ (S : Settings) (now : ℕ) (long : Option ℕ) (r : Receiver) (m : Memo
     swept-told : poll S now (stateOf r m) .1 ≡ p .timed-out
     swept-told = ap (λ (x : State × Option Key). x .1) (p .state-is (stateOf r m) refl refl refl)
 
-    sweep-number : (b : SweepAnswer) → a ≡ b → sweepNumberOf b ≡ openingNumber (too-short (spaceIn m out)) long (poll S now (stateOf r m) .1)
-    sweep-number b e = ap sweepNumberOf (sym e ∙ p .answer-is ∙ ap answerOf (sym swept-told)) ∙ (λ i. openingNumber (sym z i) (sym l i) (poll S now (stateOf r m) .1))
-
-    sweep-values : (b : SweepAnswer) → a ≡ b → sweepValuesOf b ≡ openingValues (too-short (spaceIn m out)) long (poll S now (stateOf r m) .1)
-    sweep-values b e = ap sweepValuesOf (sym e ∙ p .answer-is ∙ ap answerOf (sym swept-told)) ∙ (λ i. openingValues (sym z i) (sym l i) (poll S now (stateOf r m) .1))
+    sweep-first : (b : SweepAnswer) → a ≡ b → (sweepNumberOf b, sweepValuesOf b) ≡ opening (too-short (spaceIn m out)) long (poll S now (stateOf r m) .1)
+    sweep-first b e =
+        let x = sym e ∙ p .answer-is ∙ ap answerOf (sym swept-told) in
+        ap {B = ℕ × List Value} (λ (y : SweepAnswer). (sweepNumberOf y, sweepValuesOf y)) x
+        ∙ (λ i. opening (sym z i) (sym l i) (poll S now (stateOf r m) .1))
 
     pub opens-told : (c : Cid) (u : ℕ) → a ≡ TimedOut c u
         → Opens S now long r m out (record { sequences = q; waiting = w; listened = r .listened; discovery = r .discovery }) (with-numbers n (with-held rows store m)) true (says.UniverseTimeout c u)
@@ -218,8 +218,7 @@ module _ (S : Settings) (now : ℕ) (long : Option ℕ) (r : Receiver) (m : Memo
       kept = polled-kept S now r m p;
       lent-waiting = p .lent-waiting;
       lent-pages = pool.lent-none (m .universes);
-      number-is = sweep-number (TimedOut c u) e;
-      values-are = λ own. sweep-values (TimedOut c u) e;
+      told = λ own. sweep-first (TimedOut c u) e;
     }
 
     pub opens-quiet : a ≡ Quiet
@@ -233,8 +232,7 @@ module _ (S : Settings) (now : ℕ) (long : Option ℕ) (r : Receiver) (m : Memo
       kept = polled-kept S now r m p;
       lent-waiting = p .lent-waiting;
       lent-pages = pool.lent-none (m .universes);
-      number-is = sweep-number Quiet e;
-      values-are = λ own. sweep-values Quiet e;
+      told = λ own. sweep-first Quiet e;
     }
 
 -- what the parts of a step presuppose, where the opening let it go on
@@ -346,6 +344,16 @@ module _ (S : Settings) (a : PageCall) (r : StepAnswer) where
       (subst (λ (x : StepAnswer). (x ≡ says.TooLong n) × Tells (paging.TooLong n) x) (sym f) (refl, tells-long n))
 
 -- ── 3. data ──
+-- the courses differ
+arrive-end : course.Arrive ≡ course.End → ⊥
+arrive-end e = let z : _≡_ {A = ℕ} 0 1 = cc in absurd (omega arith)
+
+pass-end : course.Pass ≡ course.End → ⊥
+pass-end e = let z : _≡_ {A = ℕ} 0 1 = cc in absurd (omega arith)
+
+pass-arrive : course.Pass ≡ course.Arrive → ⊥
+pass-arrive e = let z : _≡_ {A = ℕ} 0 1 = cc in absurd (omega arith)
+
 pub unwanted-off : (p b : Bool) → b ≡ true → false ≡ p && not b
 unwanted-off true b e = rw e
 unwanted-off false b e = refl
@@ -353,6 +361,32 @@ unwanted-off false b e = refl
 pub unwanted-on : (p b : Bool) → b ≡ false → p ≡ p && not b
 unwanted-on true b e = rw e
 unwanted-on false b e = refl
+
+-- what a course says of the packet
+module _ (t l : Bool) (x : Course) (e : x ≡ courseOf t l) where
+  pub course-end : x ≡ course.End → t ≡ true
+  course-end f =
+      split t
+      (λ h. h)
+      (λ h. split l
+      (λ g. let z : course.Arrive ≡ course.End = sym (e ∙ (rw (h, g))) ∙ f in absurd (arrive-end z))
+      (λ g. let z : course.Pass ≡ course.End = sym (e ∙ (rw (h, g))) ∙ f in absurd (pass-end z)))
+
+  pub course-arrive : x ≡ course.Arrive → (t ≡ false) × (l ≡ true)
+  course-arrive f =
+      split t
+      (λ h. let z : course.End ≡ course.Arrive = sym (e ∙ (rw h)) ∙ f in absurd (arrive-end (sym z)))
+      (λ h. split l
+      (λ g. (h, g))
+      (λ g. let z : course.Pass ≡ course.Arrive = sym (e ∙ (rw (h, g))) ∙ f in absurd (pass-arrive z)))
+
+  pub course-pass : x ≡ course.Pass → (t ≡ false) × (l ≡ false)
+  course-pass f =
+      split t
+      (λ h. let z : course.End ≡ course.Pass = sym (e ∙ (rw h)) ∙ f in absurd (pass-end (sym z)))
+      (λ h. split l
+      (λ g. let z : course.Arrive ≡ course.Pass = sym (e ∙ (rw (h, g))) ∙ f in absurd (pass-arrive (sym z)))
+      (λ g. (h, g)))
 
 -- a stream that ends: the tables' call says by the unknown pair what the model says by the known one
 removed-terminated : (d : DataPacket) (s : State)

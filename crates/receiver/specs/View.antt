@@ -1,7 +1,7 @@
 -- The receiver and its lent memory as the model's state, what calls presuppose and keep, and what each promises.
 -- Assumes nothing.
 use mathlib.Core.Path.{_≡_}
-use mathlib.Core.Bool.{Bool, true, false, not, _||_}
+use mathlib.Core.Bool.{Bool, true, false, cond, not, _||_}
 use mathlib.Core.Option.{Option, none, some}
 use mathlib.Core.List.{List}
 use Prim.Native.Nat.{ℕ, _≤_}
@@ -35,6 +35,8 @@ use Rattle.model.specs.State.{State, fresh}
 use Rattle.model.specs.Answer.{stepNumber, stepValues}
 use Rattle.model.specs.Step.{Space, outcome, too-short, poll, terminated, listed, packet-step, step}
 use Rattle.receiver.specs.declared.Receiver.{Receiver}
+use Rattle.receiver.specs.declared.Course.{Course}
+use Rattle.receiver.specs.declared.Course.the-variants as course
 use Rattle.receiver.specs.declared.DiscoveryPacket.{DiscoveryPacket}
 
 -- ── the view ──
@@ -136,28 +138,34 @@ longOf measured.Fits = none
 longOf (measured.TooLong n) = some n
 longOf (measured.TooShort n) = none
 
--- the number and the values of what opens a step, as its parts give them: lent memory, the packet's own parts, the sweep
-abbrev pub openingNumber : Option ℕ → Option ℕ → Option Key → ℕ
-openingNumber (some n) long told = measuredNumber (shortage (some n))
-openingNumber none (some n) told = measuredNumber (excess (some n))
-openingNumber none none told = sweepNumberOf (answerOf told)
+-- what lengths and sweep say, each with its own number and values; and of two, the first that stops
+abbrev pub length-said : Measured → ℕ × List Value
+length-said x = (measuredNumber x, measuredValues x)
 
-abbrev pub openingValues : Option ℕ → Option ℕ → Option Key → List Value
-openingValues (some n) long told = measuredValues (shortage (some n))
-openingValues none (some n) told = measuredValues (excess (some n))
-openingValues none none told = sweepValuesOf (answerOf told)
+abbrev pub sweep-said : Option Key → ℕ × List Value
+sweep-said k = (sweepNumberOf (answerOf k), sweepValuesOf (answerOf k))
+
+abbrev pub first-said : ℕ × List Value → ℕ × List Value → ℕ × List Value
+first-said a b = cond (eqb (a .0) 0) b a
+
+-- "1. Output under 35,072 bytes: 15. A lent part too long: 1 .. 2. Poll", in this order
+abbrev pub opening : Option ℕ → Option ℕ → Option Key → ℕ × List Value
+opening short long k = first-said (length-said (shortage short)) (first-said (length-said (excess long)) (sweep-said k))
 
 -- 1 and 2: a step on any packet of this length ends here, or goes on from here
 pub record Opens (S : Settings) (now : ℕ) (long : Option ℕ) (r : Receiver) (m : Memory) (out : List ℕ) (r′ : Receiver) (m′ : Memory) (stopped : Bool) (answer : StepAnswer) : Type 0 where
   pub ends : stopped ≡ true → (p : Packet) → too-long p ≡ long → step (spaceIn m out) S now p (stateOf r m) ≡ outcome (stateOf r′ m′) answer
   pub goes-on : stopped ≡ false → (p : Packet) → too-long p ≡ long → step (spaceIn m out) S now p (stateOf r m) ≡ packet-step S now p (stateOf r′ m′)
-  pub number-is : stepNumber answer ≡ openingNumber (too-short (spaceIn m out)) long (poll S now (stateOf r m) .1)
-  pub values-are : (own : List ℕ) → stepValues own answer ≡ openingValues (too-short (spaceIn m out)) long (poll S now (stateOf r m) .1)
+  pub told : (own : List ℕ) → (stepNumber answer, stepValues own answer) ≡ opening (too-short (spaceIn m out)) long (poll S now (stateOf r m) .1)
   pub fits : stopped ≡ false → (too-short (spaceIn m out) ≡ none) × (long ≡ none)
   pub all-left : (n : ℕ) → first-of (too-short (spaceIn m out)) long ≡ some n → (r′ ≡ r) × (m′ ≡ m)
   pub kept : Kept r m → Kept r′ m′
   pub lent-waiting : waiting.Lent (m .rows) (m .store) (m′ .rows) (m′ .store)
   pub lent-pages : pool.Lent (m .universes) (m′ .universes)
+
+-- 3: "Terminated .. Not listened: nothing. Data pair table.", in this order
+abbrev pub courseOf : Bool → Bool → Course
+courseOf terminated listening = cond terminated course.End (cond listening course.Arrive course.Pass)
 
 -- a stream that ends: both tables and the listed source's pages are the definition's
 pub record Ends (c : Cid) (u : ℕ) (r : Receiver) (m : Memory) (r′ : Receiver) (m′ : Memory) : Type 0 where
