@@ -22,16 +22,18 @@ use Rattle.discovery.specs.Kept.{Fitting, proper-begun, proper-extended,
 use Rattle.discovery.specs.Store.{Head, Leaf, heads-of, pages-at, sources-at, viewOf, any-sources, renewed, keep-single}
 use Rattle.discovery.specs.Leaves.{behind, turned}
 use Rattle.discovery.specs.Moves.{with-source, leafOf, view-with, sound-with, others, listed-head, view-turned, sound-turned, heads-turned, grown, view-extended, sound-extended}
-use Rattle.discovery.specs.Pool.{pushed}
+use Rattle.discovery.specs.Pool.{pushed, dropped-past}
+use Rattle.discovery.specs.Lent.{lent-none}
 use Rattle.discovery.specs.Rows.{cidAt, owned, headOf, leafAt, leafWith, heads, leaves, total, amount, Few, Packs, turned-row, page-pushed, total-pushed, few-pushed}
-use Rattle.discovery.specs.Steps.{pool-room}
+use Rattle.discovery.specs.Steps.{pool-room, pool-small}
 use Rattle.discovery.specs.View.{headsOf, leavesOf, discoveredOf, Kept, Holds, Dropped, heads-append, length-leavesOf, kept-fewer, absent-heads, heads-prefix, heads-removeAt, heads-set, heads-getD, kept-held, single-sound, length-heads}
 
 -- ── a source with one page is put behind the others of its mark ──
 module _ (d : Discovery) (S N P : List (List ℕ)) (U : List ℕ) (k : Kept d S N P U) (m now : ℕ) (a : Announcement) (f : Fitting a) (small : m < 2)
     (absent : any (heads-of m (a .cid)) (headsOf d S N) ≡ false) (room : d .«page_count» < 64)
     (n U′ : List ℕ) (name : take (length (a .name)) n ≡ a .name) (len : length U′ ≡ length U)
-    (written : take (d .used + length (a .universes)) U′ ≡ take (d .used) U ++ a .universes) where
+    (written : take (d .used + length (a .universes)) U′ ≡ take (d .used) U ++ a .universes)
+    (rest : drop (d .used + length (a .universes)) U′ ≡ drop (d .used + length (a .universes)) U) where
   abbrev pub source-row : List ℕ
   source-row = m ∷ a .cid .hi ∷ a .cid .lo ∷ a .last-page ∷ now ∷ length (a .name) ∷ []
 
@@ -73,7 +75,7 @@ module _ (d : Discovery) (S N P : List (List ℕ)) (U : List ℕ) (k : Kept d S 
       refl (written ∙ ap (λ (z : List ℕ). take (d .used) U ++ z) (sym w))
       ∙ ap (λ (z : List ℕ). leaves (take i P) U ++ leafWith page-row z ∷ []) w
 
-  pub source-added : Holds one-more (set S (d .«source_count») source-row) (set N (d .«source_count») n) (set P (d .«page_count») page-row) U′
+  pub source-added : Holds U one-more (set S (d .«source_count») source-row) (set N (d .«source_count») n) (set P (d .«page_count») page-row) U′
       (with-source m (begun now a) (discoveredOf d S N P U))
   unfolding discoveredOf begun
   source-added =
@@ -101,6 +103,10 @@ module _ (d : Discovery) (S N P : List (List ℕ)) (U : List ℕ) (k : Kept d S 
         seen = ap (λ (gs : List Head). viewOf gs (leavesOf one-more (set P i page-row) U′)) heads-added
             ∙ ap (viewOf (hs ++ new-head ∷ [])) leaves-added
             ∙ view-with new-head (pageOf a) hs ls (k .sound .housed) absent;
+        lent = record {
+          pool-same = len;
+          beyond = dropped-past (d .used + length (a .universes)) 32768 U′ U (omega (arith, k .filled, pool-small i P U (length (a .universes)) (k .packing) room (f .few-universes))) rest;
+        };
       }
 
 -- a head that is found shows a source
@@ -124,8 +130,8 @@ renewed-row now r = getD r 0 0 ∷ getD r 1 0 ∷ getD r 2 0 ∷ getD r 3 0 ∷ 
 
 module _ (d : Discovery) (S N P : List (List ℕ)) (U : List ℕ) (k : Kept d S N P U) (now : ℕ) (a : Announcement) (f : Fitting a) (at : ℕ)
     (place : at ≡ prefix (λ r. not (owned 0 (a .cid) r)) (take (d .«source_count») S)) (inside : at < d .«source_count») (room : d .«page_count» < 64)
-    (P′ : List (List ℕ)) (U′ : List ℕ) (size : ℕ)
-    (p : Packs (d .«page_count» + 1) (d .used + length (a .universes)) size P′ U′
+    (P′ : List (List ℕ)) (U′ : List ℕ)
+    (p : Packs (d .«page_count» + 1) (d .used + length (a .universes)) U P′ U′
     (insertAt (prefix (behind 0 (a .cid) (a .page)) (leaves (take (d .«page_count») P) U)) (record { mark = 0; cid = a .cid; page = record { number = a .page; universes = a .universes } })
     (leaves (take (d .«page_count») P) U)))
     (t : Source) (e : lookup (a .cid) (discoveredOf d S N P U .partial) ≡ some t) where
@@ -185,7 +191,7 @@ module _ (d : Discovery) (S N P : List (List ℕ)) (U : List ℕ) (k : Kept d S 
       kept-held′ : pages-held (viewOf (headsOf d S N) (leavesOf d P U)) ≡ d .«page_count»
       kept-held′ = kept-held d S N P U k
 
-  pub source-extended : Holds page-more (set S at (renewed-row now (getD S at []))) N P′ U′ (noting (extend (extended now a t)) (discoveredOf d S N P U))
+  pub source-extended : Holds U page-more (set S at (renewed-row now (getD S at []))) N P′ U′ (noting (extend (extended now a t)) (discoveredOf d S N P U))
   unfolding discoveredOf noting
   source-extended =
       let hs = headsOf d S N in
@@ -207,6 +213,7 @@ module _ (d : Discovery) (S N P : List (List ℕ)) (U : List ℕ) (k : Kept d S 
         seen = ap (λ (gs : List Head). viewOf gs (leavesOf page-more P′ U′)) heads-more
             ∙ ap (viewOf (headsOf-renewed hs)) leaves-more-are
             ∙ v ∙ z;
+        lent = p .lent;
       }
     where
       headsOf-renewed : List Head → List Head
@@ -298,7 +305,7 @@ module _ (d : Discovery) (S N P : List (List ℕ)) (U : List ℕ) (k : Kept d S 
   unfolding leavesOf
   leaves-turned-are = ap (λ (rs : List (List ℕ)). leaves rs U) p ∙ leaves-turned c (take (d .«page_count») P) U
 
-  pub source-listed : Holds d S′ N′ P′ U (record { partial = drop-source c (discoveredOf d S N P U .partial); listed = discoveredOf d S N P U .listed ++ t ∷ [] })
+  pub source-listed : Holds U d S′ N′ P′ U (record { partial = drop-source c (discoveredOf d S N P U .partial); listed = discoveredOf d S N P U .listed ++ t ∷ [] })
   unfolding discoveredOf
   source-listed =
       let hs = headsOf d S N in
@@ -317,6 +324,7 @@ module _ (d : Discovery) (S N P : List (List ℕ)) (U : List ℕ) (k : Kept d S 
         seen = ap (λ (gs : List Head). viewOf gs (leavesOf d P′ U)) heads-turned-are
             ∙ ap (viewOf (heads-turned c h₁ hs ls t (k .sound) seen-partial absent)) leaves-turned-are
             ∙ view-turned c h₁ hs ls t (k .sound) seen-partial absent;
+        lent = lent-none U;
       }
 
 -- an owner that has a head has its place
@@ -350,7 +358,7 @@ module _ (c : Cid) (d : Discovery) (S N P : List (List ℕ)) (U : List ℕ) (d�
       → take (d₁ .«source_count») S′ ≡ removeAt at (take (d₁ .«source_count») S₁) ++ listed-row (getD S₁ at []) ∷ []
       → take (d₁ .«source_count») N′ ≡ removeAt at (take (d₁ .«source_count») N₁) ++ getD N₁ at [] ∷ []
       → take (d₁ .«page_count») P′ ≡ map (turned-row c) (take (d₁ .«page_count») P₁)
-      → (t : Source) → lookup c (discoveredOf d S N P U .partial) ≡ some t → Holds d₁ S′ N′ P′ U₁ (noting (list t) (discoveredOf d S N P U))
+      → (t : Source) → lookup c (discoveredOf d S N P U .partial) ≡ some t → Holds U d₁ S′ N′ P′ U₁ (noting (list t) (discoveredOf d S N P U))
   unfolding noting relisted
   list-done at place inside S′ N′ P′ s64 n64 p64 s n p t e =
       let e′ : lookup c (discoveredOf d₁ S₁ N₁ P₁ U₁ .partial) ≡ some t = ap (lookup c) partial-same ∙ e in
@@ -360,4 +368,4 @@ module _ (c : Cid) (d : Discovery) (S N P : List (List ℕ)) (U : List ℕ) (d�
       ap (drop-source c) partial-same ∙ ap (λ (b : Cid). drop-source b (discoveredOf d S N P U .partial)) (sym i) in
       let y : discoveredOf d₁ S₁ N₁ P₁ U₁ .listed ++ t ∷ [] ≡ drop-source (t .cid) (discoveredOf d S N P U .listed) ++ t ∷ [] =
       ap (λ (l : List Source). l ++ t ∷ []) (listed-less ∙ ap (λ (b : Cid). drop-source b (discoveredOf d S N P U .listed)) (sym i)) in
-      record { kept = h .kept; seen = h .seen ∙ (λ j. record { partial = x j; listed = y j }) }
+      record { kept = h .kept; seen = h .seen ∙ (λ j. record { partial = x j; listed = y j }); lent = g .lent }

@@ -5,15 +5,17 @@ use mathlib.Core.Bool.{Bool, true, false, not, cond, _&&_}
 use mathlib.Core.Option.{Option, none, some}
 use mathlib.Core.List.{List, [], _∷_, _++_, map}
 use Prim.Native.Nat.{ℕ, zero, suc, _+_, _≤_}
-use lib.Dec.{leb, eqb}
+use lib.Dec.{leb, ltb, eqb}
 use lib.ListN.{length}
 use Rattle.table.specs.Table.{keep, any}
 use Rattle.rules.specs.declared.Cid.{Cid}
 use Rattle.rules.specs.Cid.{same}
 use Rattle.rules.specs.Age.{aged}
-use Rattle.rules.specs.Answer.{Value}
+use Rattle.rules.specs.Answer.{Value, number, first-of}
 use Rattle.discovery.specs.declared.PageAnswer.{PageAnswer}
 use Rattle.discovery.specs.declared.PageAnswer.the-variants.{Taken, Listed, PagesFull}
+use Rattle.discovery.specs.declared.PageCall.{PageCall}
+use Rattle.discovery.specs.declared.PageCall.the-variants.{Done, TooLong}
 
 -- a page of a source's universes, at most 512
 pub record Page : Type 0 where
@@ -142,6 +144,20 @@ taken now a d =
 unfoldable pub arrived : ℕ → Announcement → Discovered → Discovered × PageAnswer
 arrived now a d = cond (leb capacity (pages-held d)) (d, PagesFull) (taken now a d)
 
+-- ── the call, for every input: "name over 63, discovery list over 512 | 1 | length"; "name before list" ──
+abbrev pub longer : ℕ → List ℕ → Option ℕ
+longer most part = cond (ltb most (length part)) (some (length part)) none
+
+unfoldable pub too-long : Announcement → Option ℕ
+too-long a = first-of (longer most-name (a .name)) (longer most-universes (a .universes))
+
+abbrev pub measured : Discovered → Option ℕ → Discovered × PageAnswer → Discovered × PageCall
+measured d none r = (r .0, Done (r .1))
+measured d (some n) r = (d, TooLong n)
+
+unfoldable pub page-call : ℕ → Announcement → Discovered → Discovered × PageCall
+page-call now a d = measured d (too-long a) (arrived now a d)
+
 -- ── a universe ends: "drop the universe from the listed source's pages" ──
 unfoldable pub cut-page : ℕ → Page → Page
 cut-page u p = record { number = p .number; universes = keep (λ v. not (eqb v u)) (p .universes) }
@@ -168,6 +184,14 @@ abbrev pub valuesOf : PageAnswer → List Value
 valuesOf Taken = []
 valuesOf Listed = []
 valuesOf PagesFull = []
+
+abbrev pub callNumber : PageCall → ℕ
+callNumber (Done a) = numberOf a
+callNumber (TooLong n) = 1
+
+abbrev pub callValues : PageCall → List Value
+callValues (Done a) = valuesOf a
+callValues (TooLong n) = number n ∷ []
 
 -- ── "tables in their order and within their counts" ──
 -- each CID at most once

@@ -6,6 +6,7 @@ pub mod Store
 pub mod Leaves
 pub mod Moves
 pub mod Pool
+pub mod Lent
 pub mod Rows
 pub mod View
 pub mod Steps

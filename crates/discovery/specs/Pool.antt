@@ -3,7 +3,7 @@
 use mathlib.Core.Path.{_≡_, sym, ap, _∙_}
 use mathlib.Core.Bool.{Bool, true, false, cond}
 use mathlib.Core.List.{List, [], _∷_, _++_, append-nil}
-use Prim.Native.Nat.{ℕ, _+_, _≤_, _<_}
+use Prim.Native.Nat.{ℕ, _+_, _-_, _≤_, _<_}
 use native.Mathlib.Omega.{arith}
 use native.Mathlib.Numerals.{add-one}
 use lib.ListN.{length, take, drop, getD, set, length-drop, length-set}
@@ -27,6 +27,9 @@ module _ {A : Type 0} where
 
   pub dropped-both : (r k : ℕ) (a b : List A) → drop r a ≡ drop r b → drop (r + k) a ≡ drop (r + k) b
   dropped-both r k a b e = sym (drop-drop k r a) ∙ ap (drop k) e ∙ drop-drop k r b
+
+  pub dropped-past : (r k : ℕ) (a b : List A) → r ≤ k → drop r a ≡ drop r b → drop k a ≡ drop k b
+  dropped-past r k a b h e = let z : r + (k - r) ≡ k = omega arith in rw z at (dropped-both r (k - r) a b e)
 
   -- the element read is the one that stood there at first
   pub read-first : (a b : List A) (r : ℕ) (d : A) → drop r a ≡ drop r b → getD a r d ≡ getD b r d

@@ -20,7 +20,8 @@ use Rattle.rules.specs.declared.Cid.{Cid}
 use Rattle.discovery.specs.Discovery.{cut-page}
 use Rattle.discovery.specs.Store.{Head, Leaf, owner, held-by}
 use Rattle.discovery.specs.Leaves.{cut-leaf}
-use Rattle.discovery.specs.Pool.{further, further-read, read-first, keep-more, dropped-both}
+use Rattle.discovery.specs.Pool.{further, further-read, read-first, keep-more, dropped-both, dropped-past}
+use Rattle.discovery.specs.Lent.{Lent}
 
 abbrev pub cidAt : List ℕ → Cid
 cidAt r = record { hi = getD r 1 0; lo = getD r 2 0 }
@@ -203,10 +204,10 @@ pub record Packing (count : ℕ) (pages : List (List ℕ)) (universes : List ℕ
   pub pool : 32768 ≤ length universes
 
 -- pages and pool after a pass: packed again, with these leaves
-pub record Packs (count used size : ℕ) (pages : List (List ℕ)) (universes : List ℕ) (ls : List Leaf) : Type 0 where
+pub record Packs (count used : ℕ) (lent-pool : List ℕ) (pages : List (List ℕ)) (universes : List ℕ) (ls : List Leaf) : Type 0 where
   pub packing : Packing count pages universes
   pub filled : used ≡ total (take count pages)
-  pub same-pool : length universes ≡ size
+  pub lent : Lent lent-pool universes
   pub leaves-are : leaves (take count pages) universes ≡ ls
 
 -- ── a pass over the pages ──
@@ -311,17 +312,18 @@ module _ (count : ℕ) (A₀ : List (List ℕ)) (B₀ : List ℕ) (g : Packing c
           rest-pool = d ∙ dropped-both from (amount (getD A i [])) B B₀ (p .rest-pool);
         }
 
-  pub pass-end : (image : List Leaf) (A : List (List ℕ)) (B : List ℕ) (kept to from i : ℕ) → Pass count A₀ B₀ image A B kept to from i → Packs kept to (length B₀) A B image
+  pub pass-end : (image : List Leaf) (A : List (List ℕ)) (B : List ℕ) (kept to from i : ℕ) → Pass count A₀ B₀ image A B kept to from i → Packs kept to B₀ A B image
   pass-end image A B kept to from i p =
       let x : kept ≤ i = p .lower in
       let y : i ≤ count = p .looked in
       let c : count ≤ 64 = g .within in
       let q : length B ≡ length B₀ = p .pool in
       let b : 32768 ≤ length B₀ = g .pool in
+      let h : from ≤ 32768 = omega (arith, p .from-total, total-few (take i A₀) (few-less i count A₀ y (g .few)), length-take i A₀, g .rows) in
       record {
         packing = record { rows = p .rows; within = omega arith; few = p .few; pool = omega arith };
         filled = p .to-total;
-        same-pool = q;
+        lent = record { pool-same = q; beyond = dropped-past from 32768 B B₀ h (p .rest-pool) };
         leaves-are = p .image-is;
       }
 

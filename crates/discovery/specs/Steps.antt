@@ -11,6 +11,7 @@ use Rattle.table.specs.Place.{prefix, prefix-le, insertAt}
 use Rattle.rules.specs.declared.Cid.{Cid}
 use Rattle.discovery.specs.Store.{Leaf}
 use Rattle.discovery.specs.Leaves.{behind}
+use Rattle.discovery.specs.Pool.{dropped-past}
 use Rattle.discovery.specs.Rows.{leafAt, leafWith, leaves, total, amount, Few, Packing, Packs, larger, leaves-agree, leaves-append, taken-dropped, total-append, total-few}
 
 -- ── one page more for a partial source ──
@@ -68,7 +69,8 @@ module _ (count used : ℕ) (P P′ : List (List ℕ)) (U U₁ U₂ : List ℕ) 
     (rows : take (count + 1) P′ ≡ insertAt at (0 ∷ c .hi ∷ c .lo ∷ n ∷ length l ∷ []) (take count P))
     (len₁ : length U₁ ≡ length U) (len₂ : length U₂ ≡ length U₁)
     (before : take begin U₁ ≡ take begin U) (behind-it : drop (begin + length l) (take (used + length l) U₁) ≡ drop begin (take used U))
-    (written : take (begin + length l) U₂ ≡ take begin U₁ ++ l) (rest : drop (begin + length l) U₂ ≡ drop (begin + length l) U₁) where
+    (written : take (begin + length l) U₂ ≡ take begin U₁ ++ l) (rest : drop (begin + length l) U₂ ≡ drop (begin + length l) U₁)
+    (past : drop (used + length l) U₁ ≡ drop (used + length l) U) where
   row : List ℕ
   row = 0 ∷ c .hi ∷ c .lo ∷ n ∷ length l ∷ []
 
@@ -113,12 +115,13 @@ module _ (count used : ℕ) (P P′ : List (List ℕ)) (U U₁ U₂ : List ℕ) 
       ap (take k) rest ∙ sym (taken-dropped (begin + length l) k U₁) ∙ u ∙ taken-dropped begin k U in
       leaves-agree (drop at (take count P)) (drop (begin + length l) U₂) (drop begin U) (rw e v)
 
-  pub page-inserted : Packs (count + 1) (used + length l) (length U) P′ U₂
+  pub page-inserted : Packs (count + 1) (used + length l) U P′ U₂
       (insertAt (prefix (behind 0 c n) (leaves (take count P) U)) (record { mark = 0; cid = c; page = record { number = n; universes = l } }) (leaves (take count P) U))
   unfolding leaves row rs
   page-inserted =
       let w : count ≤ 64 = g .within in
       let b : 32768 ≤ length U = g .pool in
+      let small : used + length l ≤ 32768 = omega (arith, filled, pool-small count P U (length l) g room short) in
       let ls = leaves (take count P) U in
       let new : Leaf = record { mark = 0; cid = c; page = record { number = n; universes = l } } in
       let q : at ≡ prefix (behind 0 c n) ls = place ∙ sym (leaves-prefix c n (take count P) U) in
@@ -139,6 +142,9 @@ module _ (count used : ℕ) (P P′ : List (List ℕ)) (U U₁ U₂ : List ℕ) 
           pool = omega (arith, len₁, len₂);
         };
         filled = omega (arith, ap total rows, total-insert at row rs, filled);
-        same-pool = len₂ ∙ len₁;
+        lent = record {
+          pool-same = len₂ ∙ len₁;
+          beyond = dropped-past (begin + length l) 32768 U₂ U₁ (omega (arith, small, inside)) rest ∙ dropped-past (used + length l) 32768 U₁ U (omega (arith, small)) past;
+        };
         leaves-are = ap (λ (k : List (List ℕ)). leaves k U₂) rows ∙ x ∙ z ∙ ap (λ (k : ℕ). insertAt k new ls) q;
       }

@@ -25,11 +25,11 @@ use Rattle.discovery.specs.Rows.{cidAt, headOf, heads, leaves, total, Pa
 use Rattle.discovery.specs.View.{headsOf, leavesOf, discoveredOf, Kept, Holds, Emptied, Dropped, heads-getD, length-headsOf}
 
 -- ── a universe ends ──
-pub universe-ended : (d : Discovery) (S N P : List (List ℕ)) (U : List ℕ) (k : Kept d S N P U) (c : Cid) (u used size : ℕ) (P′ : List (List ℕ)) (U′ : List ℕ)
-    → Packs (d .«page_count») used size P′ U′ (map (cut-leaf c u) (leaves (take (d .«page_count») P) U))
-    → Holds (record { «source_count» = d .«source_count»; «page_count» = d .«page_count»; used = used }) S N P′ U′ (ended c u (discoveredOf d S N P U))
+pub universe-ended : (d : Discovery) (S N P : List (List ℕ)) (U : List ℕ) (k : Kept d S N P U) (c : Cid) (u used : ℕ) (P′ : List (List ℕ)) (U′ : List ℕ)
+    → Packs (d .«page_count») used U P′ U′ (map (cut-leaf c u) (leaves (take (d .«page_count») P) U))
+    → Holds U (record { «source_count» = d .«source_count»; «page_count» = d .«page_count»; used = used }) S N P′ U′ (ended c u (discoveredOf d S N P U))
 unfolding discoveredOf headsOf leavesOf
-universe-ended d S N P U k c u used size P′ U′ p =
+universe-ended d S N P U k c u used P′ U′ p =
     let hs = headsOf d S N in
     let ls = leavesOf d P U in
     record {
@@ -42,6 +42,7 @@ universe-ended d S N P U k c u used size P′ U′ p =
         sound = rw (p .leaves-are) (sound-cut c u hs ls (k .sound));
       };
       seen = ap (viewOf hs) (p .leaves-are) ∙ view-cut c u hs ls;
+      lent = p .lent;
     }
 
 -- ── an expired head ──

@@ -16,6 +16,7 @@ use Rattle.rules.specs.declared.Cid.{Cid}
 use Rattle.discovery.specs.declared.Discovery.{Discovery}
 use Rattle.discovery.specs.Discovery.{Discovered, pages-held, nothing-known}
 use Rattle.discovery.specs.Store.{Head, Leaf, heads-of, held-by, pages-at, viewOf, Sound, Single, single-heads, keep-none, keep-single, prefix-none, prefix-any}
+use Rattle.discovery.specs.Lent.{Lent, lent-none}
 use Rattle.discovery.specs.Leaves.{held-leaves, heads-leaves, pages-none}
 use Rattle.discovery.specs.Moves.{without, others, leaves-of-others, view-dropped, sound-dropped}
 use Rattle.discovery.specs.Rows.{owned, headOf, heads, leaves, total, Packing, Packs, length-leaves}
@@ -39,10 +40,11 @@ pub record Kept (d : Discovery) (sources names pages : List (List ℕ)) (univers
   pub filled : d .used ≡ total (take (d .«page_count») pages)
   pub sound : Sound (headsOf d sources names) (leavesOf d pages universes)
 
--- kept, and with these sources
-pub record Holds (d : Discovery) (sources names pages : List (List ℕ)) (universes : List ℕ) (e : Discovered) : Type 0 where
+-- kept, and with these sources; of the pool lent before, what is the caller's is untouched
+pub record Holds (lent-pool : List ℕ) (d : Discovery) (sources names pages : List (List ℕ)) (universes : List ℕ) (e : Discovered) : Type 0 where
   pub kept : Kept d sources names pages universes
   pub seen : discoveredOf d sources names pages universes ≡ e
+  pub lent : Lent lent-pool universes
 
 -- nothing is known, whatever the memory holds
 pub record Emptied (d : Discovery) : Type 0 where
@@ -143,6 +145,7 @@ pub record Dropped (m : ℕ) (c : Cid) (d : Discovery) (S N P : List (List ℕ))
   pub kept : Kept e S′ N′ P′ U′
   pub view : discoveredOf e S′ N′ P′ U′ ≡ without m c (discoveredOf d S N P U)
   pub gone : any (heads-of m c) (headsOf e S′ N′) ≡ false
+  pub lent : Lent U U′
   pub shrunk : any (heads-of m c) (headsOf d S N) ≡ true → e .«source_count» < d .«source_count»
 
 module _ (m : ℕ) (c : Cid) (d : Discovery) (S N P : List (List ℕ)) (U : List ℕ) (k : Kept d S N P U) where
@@ -170,13 +173,14 @@ module _ (m : ℕ) (c : Cid) (d : Discovery) (S N P : List (List ℕ)) (U : List
         kept = k;
         view = sym (ap (λ (gs : List Head). viewOf gs ls) x) ∙ sym (ap (λ (ks : List Leaf). viewOf (others m c hs) ks) y) ∙ view-dropped m c hs ls;
         gone = a;
+        lent = lent-none U;
         shrunk = λ b. clash b a;
       }
 
-  module _ (small : m < 2) (S′ N′ P′ : List (List ℕ)) (U′ : List ℕ) (i pc used size : ℕ)
+  module _ (small : m < 2) (S′ N′ P′ : List (List ℕ)) (U′ : List ℕ) (i pc used : ℕ)
       (at : i ≡ prefix (λ r. not (owned m c r)) (take (d .«source_count») S)) (inside : i < d .«source_count») (s64 : length S′ ≡ 64) (n64 : length N′ ≡ 64)
       (s : take (d .«source_count» - 1) S′ ≡ removeAt i (take (d .«source_count») S)) (n : take (d .«source_count» - 1) N′ ≡ removeAt i (take (d .«source_count») N))
-      (p : Packs pc used size P′ U′ (keep (λ l. not (held-by m c l)) (leaves (take (d .«page_count») P) U))) where
+      (p : Packs pc used U P′ U′ (keep (λ l. not (held-by m c l)) (leaves (take (d .«page_count») P) U))) where
     after : Discovery
     after = record { «source_count» = d .«source_count» - 1; «page_count» = pc; used = used }
 
@@ -210,5 +214,6 @@ module _ (m : ℕ) (c : Cid) (d : Discovery) (S N P : List (List ℕ)) (U : List
           };
           view = ap (λ (gs : List Head). viewOf gs (leavesOf after P′ U′)) heads-after ∙ ap (viewOf (others m c hs)) leaves-after ∙ view-dropped m c hs ls;
           gone = rw heads-after (any-others-gone m c hs);
+          lent = p .lent;
           shrunk = λ b. omega (arith, inside);
         }

@@ -15,7 +15,7 @@ ghost use Rattle.discovery.specs.Store.{heads-of};
 ghost use Rattle.discovery.specs.Rows.{owned};
 ghost use Rattle.discovery.specs.Discovery.{Source, lookup, begun, extended, extend, list, noting, taken, ended, swept};
 ghost use Rattle.discovery.specs.Moves.{with-source};
-ghost use Rattle.discovery.specs.Arrive.{Took, Arrival};
+ghost use Rattle.discovery.specs.Arrive.{Took, Arrival, Called};
 ghost use Rattle.discovery.specs.View.{headsOf, discoveredOf, Kept, Holds, Emptied, Dropped};
 use crate::pages::add_page;
 use crate::pages::cut_pages;
@@ -52,6 +52,20 @@ pub enum PageAnswer {
 pub struct PageArrived {
     pub discovery: Discovery,
     pub answer: PageAnswer,
+}
+
+// What the call for a page answers, whatever its lengths.
+pub enum PageCall {
+    // The page is not too long, and arrived.
+    Done(PageAnswer),
+    // Number 1: a name over 63 or a list over 512, with its length; name before list.
+    TooLong(usize),
+}
+
+// The state after the call, and its answer.
+pub struct PageCalled {
+    pub discovery: Discovery,
+    pub answer: PageCall,
 }
 
 impl Discovery {
@@ -99,7 +113,7 @@ impl Discovery {
         list: &[u16],
     ) -> Discovery
         requires { ⌜ Kept self (now sources) (now names) (now pages) (now universes) × (mark < 2) × (self .«page_count» < 64) × (length (now name) ≤ 63) × (length (now list) ≤ 512) × (any (heads-of mark cid) (headsOf self (now sources) (now names)) ≡ false) ⌝ }
-        ensures { λ r. ⌜ Holds r (now (sources .exit)) (now (names .exit)) (now (pages .exit)) (now (universes .exit)) (with-source mark (begun reading (record { cid = cid; name = now (name .entry); page = page; last-page = «last_page»; universes = now (list .entry) })) (discoveredOf self (now (sources .entry)) (now (names .entry)) (now (pages .entry)) (now (universes .entry)))) ⌝ }
+        ensures { λ r. ⌜ Holds (now (universes .entry)) r (now (sources .exit)) (now (names .exit)) (now (pages .exit)) (now (universes .exit)) (with-source mark (begun reading (record { cid = cid; name = now (name .entry); page = page; last-page = «last_page»; universes = now (list .entry) })) (discoveredOf self (now (sources .entry)) (now (names .entry)) (now (pages .entry)) (now (universes .entry)))) ⌝ }
     {
         let at = self.source_count;
         let count = self.page_count;
@@ -142,7 +156,7 @@ impl Discovery {
         list: &[u16],
     ) -> Discovery
         requires { ⌜ Kept self (now sources) (now names) (now pages) (now universes) × (self .«page_count» < 64) × (length (now name) ≤ 63) × (length (now list) ≤ 512) × (at ≡ prefix (λ row. not (owned 0 cid row)) (take (self .«source_count») (now sources))) × (at < self .«source_count») ⌝ }
-        ensures { λ r. ⌜ ((t : Source) → lookup cid (discoveredOf self (now (sources .entry)) (now (names .entry)) (now (pages .entry)) (now (universes .entry)) .partial) ≡ some t → Holds r (now (sources .exit)) (now (names .entry)) (now (pages .exit)) (now (universes .exit)) (noting (extend (extended reading (record { cid = cid; name = now (name .entry); page = page; last-page = «last_page»; universes = now (list .entry) }) t)) (discoveredOf self (now (sources .entry)) (now (names .entry)) (now (pages .entry)) (now (universes .entry))))) ⌝ }
+        ensures { λ r. ⌜ ((t : Source) → lookup cid (discoveredOf self (now (sources .entry)) (now (names .entry)) (now (pages .entry)) (now (universes .entry)) .partial) ≡ some t → Holds (now (universes .entry)) r (now (sources .exit)) (now (names .entry)) (now (pages .exit)) (now (universes .exit)) (noting (extend (extended reading (record { cid = cid; name = now (name .entry); page = page; last-page = «last_page»; universes = now (list .entry) }) t)) (discoveredOf self (now (sources .entry)) (now (names .entry)) (now (pages .entry)) (now (universes .entry))))) ⌝ }
     {
         let count = self.page_count;
         let used = self.used;
@@ -168,7 +182,7 @@ impl Discovery {
         cid: Cid,
     ) -> Discovery
         requires { ⌜ Kept self (now sources) (now names) (now pages) (now universes) × (any (heads-of 0 cid) (headsOf self (now sources) (now names)) ≡ true) ⌝ }
-        ensures { λ r. ⌜ ((t : Source) → lookup cid (discoveredOf self (now (sources .entry)) (now (names .entry)) (now (pages .entry)) (now (universes .entry)) .partial) ≡ some t → Holds r (now (sources .exit)) (now (names .exit)) (now (pages .exit)) (now (universes .exit)) (noting (list t) (discoveredOf self (now (sources .entry)) (now (names .entry)) (now (pages .entry)) (now (universes .entry))))) ⌝ }
+        ensures { λ r. ⌜ ((t : Source) → lookup cid (discoveredOf self (now (sources .entry)) (now (names .entry)) (now (pages .entry)) (now (universes .entry)) .partial) ≡ some t → Holds (now (universes .entry)) r (now (sources .exit)) (now (names .exit)) (now (pages .exit)) (now (universes .exit)) (noting (list t) (discoveredOf self (now (sources .entry)) (now (names .entry)) (now (pages .entry)) (now (universes .entry))))) ⌝ }
     {
         let d = self.drop_source(
             &mut *sources,
@@ -201,7 +215,7 @@ impl Discovery {
         list: &[u16],
     ) -> PageArrived
         requires { ⌜ Kept self (now sources) (now names) (now pages) (now universes) × (self .«page_count» < 64) × (length (now name) ≤ 63) × (length (now list) ≤ 512) × (any (heads-of 0 cid) (headsOf self (now sources) (now names)) ≡ false) ⌝ }
-        ensures { λ r. ⌜ Took r (now (sources .exit)) (now (names .exit)) (now (pages .exit)) (now (universes .exit)) (taken reading (record { cid = cid; name = now (name .entry); page = page; last-page = «last_page»; universes = now (list .entry) }) (discoveredOf self (now (sources .entry)) (now (names .entry)) (now (pages .entry)) (now (universes .entry)))) ⌝ }
+        ensures { λ r. ⌜ Took (now (universes .entry)) r (now (sources .exit)) (now (names .exit)) (now (pages .exit)) (now (universes .exit)) (taken reading (record { cid = cid; name = now (name .entry); page = page; last-page = «last_page»; universes = now (list .entry) }) (discoveredOf self (now (sources .entry)) (now (names .entry)) (now (pages .entry)) (now (universes .entry)))) ⌝ }
     {
         if page == 0 {
             if last_page == 0 {
@@ -267,7 +281,7 @@ impl Discovery {
         list: &[u16],
     ) -> PageArrived
         requires { ⌜ Kept self (now sources) (now names) (now pages) (now universes) × (self .«page_count» < 64) × (length (now name) ≤ 63) × (length (now list) ≤ 512) × (at ≡ prefix (λ row. not (owned 0 cid row)) (take (self .«source_count») (now sources))) × (at < self .«source_count») ⌝ }
-        ensures { λ r. ⌜ Took r (now (sources .exit)) (now (names .exit)) (now (pages .exit)) (now (universes .exit)) (taken reading (record { cid = cid; name = now (name .entry); page = page; last-page = «last_page»; universes = now (list .entry) }) (discoveredOf self (now (sources .entry)) (now (names .entry)) (now (pages .entry)) (now (universes .entry)))) ⌝ }
+        ensures { λ r. ⌜ Took (now (universes .entry)) r (now (sources .exit)) (now (names .exit)) (now (pages .exit)) (now (universes .exit)) (taken reading (record { cid = cid; name = now (name .entry); page = page; last-page = «last_page»; universes = now (list .entry) }) (discoveredOf self (now (sources .entry)) (now (names .entry)) (now (pages .entry)) (now (universes .entry)))) ⌝ }
     {
         let row = sources[at];
         let first_last_page = row[3];
@@ -304,8 +318,8 @@ impl Discovery {
         }
     }
 
-    // A page arrives at this reading.
-    pub fn page_arrives(
+    // A page that is not too long: 13 first, then its own rules.
+    fn take_page(
         self,
         sources: &mut [[u64; 6]; 64],
         names: &mut [[u8; 63]; 64],
@@ -359,6 +373,55 @@ impl Discovery {
         )
     }
 
+    // A page arrives at this reading.
+    pub fn page_arrives(
+        self,
+        sources: &mut [[u64; 6]; 64],
+        names: &mut [[u8; 63]; 64],
+        pages: &mut [[u64; 5]; 64],
+        universes: &mut [u16],
+        reading: u64,
+        cid: Cid,
+        page: u8,
+        last_page: u8,
+        name: &[u8],
+        list: &[u16],
+    ) -> PageCalled
+        requires { ⌜ Kept self (now sources) (now names) (now pages) (now universes) ⌝ }
+        ensures { λ r. ⌜ Called self (now (sources .entry)) (now (names .entry)) (now (pages .entry)) (now (universes .entry)) reading (record { cid = cid; name = now (name .entry); page = page; last-page = «last_page»; universes = now (list .entry) }) r (now (sources .exit)) (now (names .exit)) (now (pages .exit)) (now (universes .exit)) ⌝ }
+    {
+        let length = name.len();
+        if 63 < length {
+            return PageCalled {
+                discovery: self,
+                answer: PageCall::TooLong(length),
+            };
+        }
+        let count = list.len();
+        if 512 < count {
+            return PageCalled {
+                discovery: self,
+                answer: PageCall::TooLong(count),
+            };
+        }
+        let a = self.take_page(
+            &mut *sources,
+            &mut *names,
+            &mut *pages,
+            &mut *universes,
+            reading,
+            cid,
+            page,
+            last_page,
+            name,
+            list,
+        );
+        let discovery = a.discovery;
+        let said = a.answer;
+        let answer = PageCall::Done(said);
+        PageCalled { discovery, answer }
+    }
+
     // Nothing is known, whatever the lent memory holds.
     pub fn new() -> Discovery
         ensures { λ r. ⌜ Emptied r ⌝ }
@@ -388,7 +451,7 @@ impl Discovery {
         universe: u16,
     ) -> Discovery
         requires { ⌜ Kept self (now sources) (now names) (now pages) (now universes) ⌝ }
-        ensures { λ r. ⌜ Holds r (now (sources .entry)) (now (names .entry)) (now (pages .exit)) (now (universes .exit)) (ended cid universe (discoveredOf self (now (sources .entry)) (now (names .entry)) (now (pages .entry)) (now (universes .entry)))) ⌝ }
+        ensures { λ r. ⌜ Holds (now (universes .entry)) r (now (sources .entry)) (now (names .entry)) (now (pages .exit)) (now (universes .exit)) (ended cid universe (discoveredOf self (now (sources .entry)) (now (names .entry)) (now (pages .entry)) (now (universes .entry)))) ⌝ }
     {
         let used = cut_pages(&mut *pages, &mut *universes, self.page_count, cid, universe);
         Discovery {
@@ -409,7 +472,7 @@ impl Discovery {
         reading: u64,
     ) -> Discovery
         requires { ⌜ Kept self (now sources) (now names) (now pages) (now universes) ⌝ }
-        ensures { λ r. ⌜ Holds r (now (sources .exit)) (now (names .exit)) (now (pages .exit)) (now (universes .exit)) (swept time reading (discoveredOf self (now (sources .entry)) (now (names .entry)) (now (pages .entry)) (now (universes .entry)))) ⌝ }
+        ensures { λ r. ⌜ Holds (now (universes .entry)) r (now (sources .exit)) (now (names .exit)) (now (pages .exit)) (now (universes .exit)) (swept time reading (discoveredOf self (now (sources .entry)) (now (names .entry)) (now (pages .entry)) (now (universes .entry)))) ⌝ }
     {
         let mut d = self;
         let mut at = find_expired(&*sources, d.source_count, time, reading);

@@ -34,7 +34,7 @@ pub fn drop_pages(
     cid: Cid,
 ) -> Left
     requires { ⌜ Packing count (now pages) (now universes) ⌝ }
-    ensures { λ r. ⌜ Packs (r .«page_count») (r .used) (length (now (universes .entry))) (now (pages .exit)) (now (universes .exit)) (keep (λ l. not (held-by mark cid l)) (leaves (take count (now (pages .entry))) (now (universes .entry)))) ⌝ }
+    ensures { λ r. ⌜ Packs (r .«page_count») (r .used) (now (universes .entry)) (now (pages .exit)) (now (universes .exit)) (keep (λ l. not (held-by mark cid l)) (leaves (take count (now (pages .entry))) (now (universes .entry)))) ⌝ }
 {
     let mut kept = 0;
     let mut to = 0;
@@ -70,7 +70,7 @@ pub fn cut_pages(
     universe: u16,
 ) -> usize
     requires { ⌜ Packing count (now pages) (now universes) ⌝ }
-    ensures { λ r. ⌜ Packs count r (length (now (universes .entry))) (now (pages .exit)) (now (universes .exit)) (map (cut-leaf cid universe) (leaves (take count (now (pages .entry))) (now (universes .entry)))) ⌝ }
+    ensures { λ r. ⌜ Packs count r (now (universes .entry)) (now (pages .exit)) (now (universes .exit)) (map (cut-leaf cid universe) (leaves (take count (now (pages .entry))) (now (universes .entry)))) ⌝ }
 {
     let mut to = 0;
     let mut from = 0;
@@ -106,7 +106,7 @@ pub fn add_page(
     list: &[u16],
 )
     requires { ⌜ Packing count (now pages) (now universes) × (used ≡ total (take count (now pages))) × (count < 64) × (length (now list) ≤ 512) ⌝ }
-    ensures { λ r. ⌜ Packs (count + 1) (used + length (now (list .entry))) (length (now (universes .entry))) (now (pages .exit)) (now (universes .exit)) (insertAt (prefix (behind 0 cid number) (leaves (take count (now (pages .entry))) (now (universes .entry)))) (record { mark = 0; cid = cid; page = record { number = number; universes = now (list .entry) } }) (leaves (take count (now (pages .entry))) (now (universes .entry)))) ⌝ }
+    ensures { λ r. ⌜ Packs (count + 1) (used + length (now (list .entry))) (now (universes .entry)) (now (pages .exit)) (now (universes .exit)) (insertAt (prefix (behind 0 cid number) (leaves (take count (now (pages .entry))) (now (universes .entry)))) (record { mark = 0; cid = cid; page = record { number = number; universes = now (list .entry) } }) (leaves (take count (now (pages .entry))) (now (universes .entry)))) ⌝ }
 {
     let n = list.len();
     let at = page_place(&*pages, count, cid, number);

@@ -10,7 +10,7 @@ ghost use Rattle.table.specs.Table.{keep};
 // Those from place at to the first `used` moved up by n.
 pub fn open_gap(universes: &mut [u16], used: usize, at: usize, n: usize)
     requires { ⌜ (at ≤ used) × (used + n ≤ length (now universes)) ⌝ }
-    ensures { λ r. ⌜ (length (now (universes .exit)) ≡ length (now (universes .entry))) × (take at (now (universes .exit)) ≡ take at (now (universes .entry))) × (drop (at + n) (take (used + n) (now (universes .exit))) ≡ drop at (take used (now (universes .entry)))) ⌝ }
+    ensures { λ r. ⌜ (length (now (universes .exit)) ≡ length (now (universes .entry))) × (take at (now (universes .exit)) ≡ take at (now (universes .entry))) × (drop (at + n) (take (used + n) (now (universes .exit))) ≡ drop at (take used (now (universes .entry)))) × (drop (used + n) (now (universes .exit)) ≡ drop (used + n) (now (universes .entry))) ⌝ }
 {
     let mut i = used;
     while at < i {

@@ -3,10 +3,13 @@
 use mathlib.Core.Path.{_≡_, refl, sym, ap, _∙_}
 use mathlib.Core.Bool.{Bool, true, false}
 use mathlib.Core.List.{List, [], _∷_, map}
-use Prim.Native.Nat.{ℕ, zero, suc, _+_, _-_, _*_, _≤_, _<_}
+use Prim.Native.Nat.{ℕ, zero, suc, _*_, _≤_, _<_, min}
 use native.Mathlib.Omega.{arith}
-use lib.ListN.{length, take, drop, getD, replicate, length-take}
-use lib.Seq.{getD-take}
+use lib.Dec.{ltb}
+use lib.ListN.{length, take, drop, getD, replicate, length-take, drop-of-length-le}
+use lib.Seq.{getD-take, take-all}
+use borrow.Author.Tests.{ltb-true, ltb-false}
+use Rattle.table.specs.Cases.{split}
 use Rattle.table.specs.Place.{getD-map}
 use Rattle.rules.specs.declared.Cid.{Cid}
 use Rattle.pairs.specs.declared.Pair.{Pair}
@@ -14,11 +17,11 @@ use Rattle.pairs.specs.View.{cidOf, pairOf}
 use Rattle.merge.specs.declared.DmxData.{DmxData}
 use Rattle.merge.specs.declared.SourceCid.{SourceCid}
 use Rattle.merge.specs.declared.SourceCid.the-variants.{Merged, Of}
-use Rattle.waiting.specs.Entries.{waitingOf, nothing, countOf}
+use Rattle.merge.specs.Merge.{Dmx}
+use Rattle.waiting.specs.Entries.{waitingOf, entries, entryOf, nothing, countOf, length-entries}
 use Rattle.waiting.specs.Entries as held
-use Rattle.waiting.specs.Calls.{values-at}
 use Rattle.discovery.specs.Discovery.{Page}
-use Rattle.discovery.specs.Rows.{amount, total}
+use Rattle.discovery.specs.Rows.{total}
 use Rattle.readouts.specs.declared.SourceHead.{SourceHead}
 use Rattle.readouts.specs.declared.PageHead.{PageHead}
 use Rattle.readouts.specs.Reads.{page-of-row}
@@ -55,6 +58,17 @@ headRead s = record { cid = record { hi = s .hi; lo = s .lo }; «name_length» =
 
 abbrev pub pageRead : PageRead → List ℕ → Page
 pageRead p universes = record { number = p .number; universes = take (p .count) (drop (p .start) universes) }
+
+-- past the last place: zeros
+abbrev pub no-source : ℕ → SourceRead
+no-source place = record { hi = 0; lo = 0; reading = 0; «last_page» = 0; «name_length» = 0; place = place }
+
+abbrev pub no-page : ℕ → PageRead
+no-page place = record { number = 0; count = 0; start = 0; place = place }
+
+-- no part that a caller lends is longer
+abbrev pub longest : ℕ
+longest = 9223372036854775807
 
 -- ── entries ──
 past-end : {A : Type 0} (l : List A) (i : ℕ) (d : A) → length l ≤ i → getD l i d ≡ d
@@ -110,16 +124,28 @@ dmxOf d o = record {
 pub owned-by : (d : DmxData) (o : SourceCid) → d .«src_cid» ≡ o → dmxOf d o ≡ d
 owned-by d o e = sym (λ i. dmxOf d (e i))
 
-pub values-lie : (n i m : ℕ) (rows : List (List ℕ)) (store : List ℕ) → held.Kept n rows store → i < n → m ≡ countOf (getD rows i [])
+-- as far as there are rows
+pub waiting-within : (n m : ℕ) (rows : List (List ℕ)) (store : List ℕ) → length rows ≡ 64 → m ≡ min n 64 → waitingOf m rows store ≡ waitingOf n rows store
+waiting-within n m rows store l e =
+    let k = length-entries rows store in
+    split (ltb 64 n)
+    (λ h. let g = ltb-true 64 n h in take-all m (entries rows store) (omega arith) ∙ sym (take-all n (entries rows store) (omega arith)))
+    (λ h. let g = ltb-false 64 n h in let z : m ≡ n = omega arith in ap (λ (x : ℕ). waitingOf x rows store) z)
+
+pub values-lie : (n i m : ℕ) (rows : List (List ℕ)) (store : List ℕ) → i < n → i < length rows → m ≡ countOf (getD rows i [])
     → take m (drop (i * 513) store) ≡ getD (waitingOf n rows store) i nothing .values
-values-lie n i m rows store k h e =
-    let z : m ≡ i * 513 + m - i * 513 = omega arith in
-    ap (λ (x : ℕ). take x (drop (i * 513) store)) z ∙ values-at n i m rows store k h e
+values-lie n i m rows store h l e =
+    let x : getD (waitingOf n rows store) i nothing ≡ entryOf (getD rows i []) (drop (i * 513) store) = getD-take n (entries rows store) i nothing h ∙ held.entry-at rows store i nothing l in
+    ap (λ (k : ℕ). take k (drop (i * 513) store)) e ∙ sym (ap (λ (y : Dmx). y .values) x)
 
 -- ── a page ──
-pub page-lies : (P : List (List ℕ)) (U : List ℕ) (at start : ℕ) (h : PageHead) → out.PageRead (getD P at []) h → start ≡ total (take at P)
+pub page-lies : (P : List (List ℕ)) (U : List ℕ) (at start : ℕ) (h : PageHead) → out.PageRead (getD P at []) h → start ≡ min (total (take at P)) longest → length U ≤ longest
     → page-of-row P U at ≡ record { number = h .number; universes = take (h .count) (drop start U) }
 unfolding page-of-row
-page-lies P U at start h x e =
-    sym ((λ i. record { number = x .number-read i; universes = take (x .count-read i) (drop start U) })
-    ∙ (λ i. record { number = getD (getD P at []) 3 0; universes = take (amount (getD P at [])) (drop (e i) U) }))
+page-lies P U at start h x e l =
+    let t = total (take at P) in
+    let z : drop start U ≡ drop t U =
+    split (ltb longest t)
+    (λ g. let y = ltb-true longest t g in drop-of-length-le U {i = start} (omega arith) ∙ sym (drop-of-length-le U {i = t} (omega arith)))
+    (λ g. let y = ltb-false longest t g in let q : start ≡ t = omega arith in ap (λ (k : ℕ). drop k U) q) in
+    sym (λ i. record { number = x .number-read i; universes = take (x .count-read i) (z i) })

@@ -802,7 +802,8 @@ pub extern "C" fn tamburelvi_clear_source_limit(choices: Choices) -> Choices
 // A limit of 0 gives 14 and changes nothing.
 #[no_mangle]
 pub extern "C" fn tamburelvi_set_source_limit(choices: Choices, limit: u16) -> Limited
-    ensures { λ r. ⌜ (settingsOf (r .choices) ≡ limited limit (settingsOf choices) .settings) × (r .number ≡ numberOf (limited limit (settingsOf choices) .answer)) ⌝ }
+    ensures set { λ r. ⌜ (settingsOf (r .choices) ≡ limited limit (settingsOf choices) .settings) × (r .number ≡ numberOf (limited limit (settingsOf choices) .answer)) ⌝ }
+    ensures left { λ r. ⌜ (r .number ≡ 14 → r .choices ≡ choices) ⌝ }
 {
     if limit == 0 {
         return Limited {

@@ -5,21 +5,20 @@ ghost use Prim.Native.Nat.{ℕ, _≤_, _<_};
 ghost use lib.ListN.{length, take, drop, getD};
 ghost use Rattle.pairs.specs.View.{cidOf, pairOf, pairsOf, sourcesOf};
 ghost use Rattle.waiting.specs.Entries.{waitingOf, nothing};
-ghost use Rattle.waiting.specs.Entries as held;
-ghost use Rattle.discovery.specs.Rows.{Few};
 ghost use Rattle.readouts.specs.Reads.{page-of-row, SourceAt, PageAt, HeadRead};
 ghost use Rattle.listening.specs.View.{listenedOf};
 ghost use Rattle.export.specs.Boundary.{receiverOf};
-ghost use Rattle.export.specs.Reads.{pairRead, cidRead, dmxRead, headRead, pageRead};
+ghost use Rattle.export.specs.Reads.{pairRead, cidRead, dmxRead, headRead, pageRead, no-source, no-page, longest};
 use crate::Header;
 use discovery::Discovery;
-use discovery::owners::offset;
 use merge::DmxData;
 use merge::SourceCid;
 use readouts::page_head;
+use readouts::page_start;
 use readouts::place_of_page;
 use readouts::source_head;
 use readouts::source_place;
+use readouts::within;
 use rules::Cid;
 use waiting::Waiting;
 use waiting::count_of;
@@ -200,12 +199,11 @@ fn read_dmx(d: DmxData) -> DmxRead
 // What waits for a universe, ascending, but for its values.
 #[no_mangle]
 pub extern "C" fn tamburelvi_waiting(header: Header, rows: &[[u64; 9]; 64], at: usize) -> DmxRead
-    requires { ⌜ (receiverOf header .waiting .count ≤ 64) × (length (now rows) ≡ 64) ⌝ }
+    requires { ⌜ length (now rows) ≡ 64 ⌝ }
     ensures { λ r. ⌜ ((store : List ℕ) → dmxRead r ≡ getD (waitingOf (receiverOf header .waiting .count) (now (rows .entry)) store) at nothing .head) ⌝ }
 {
-    let w = Waiting {
-        count: header.waiting,
-    };
+    let count = within(header.waiting);
+    let w = Waiting { count };
     let d = w.waiting_data(rows, at);
     read_dmx(d)
 }
@@ -224,10 +222,11 @@ pub extern "C" fn tamburelvi_waiting_values(
     rows: &[[u64; 9]; 64],
     at: usize,
 ) -> PartRead
-    requires { ⌜ (receiverOf header .waiting .count ≤ 64) × (length (now rows) ≡ 64) ⌝ }
-    ensures { λ r. ⌜ ((store : List ℕ) → held.Kept (receiverOf header .waiting .count) (now (rows .entry)) store → take (r .count) (drop (r .start) store) ≡ getD (waitingOf (receiverOf header .waiting .count) (now (rows .entry)) store) at nothing .values) ⌝ }
+    requires { ⌜ length (now rows) ≡ 64 ⌝ }
+    ensures { λ r. ⌜ ((store : List ℕ) → take (r .count) (drop (r .start) store) ≡ getD (waitingOf (receiverOf header .waiting .count) (now (rows .entry)) store) at nothing .values) ⌝ }
 {
-    if header.waiting <= at {
+    let waiting = within(header.waiting);
+    if waiting <= at {
         return PartRead { start: 0, count: 0 };
     }
     let row = rows[at];
@@ -258,7 +257,7 @@ pub struct PageRead {
     pub place: usize,
 }
 
-// The source of this mark (0 partial, 1 listed), by its place in its list; where there are not so many, the place is the number of sources, and the rest says nothing.
+// The source of this mark (0 partial, 1 listed), by its place in its list; where there are not so many, the place is the number of sources, and the rest is zeros.
 #[no_mangle]
 pub extern "C" fn tamburelvi_source_at(
     header: Header,
@@ -266,9 +265,10 @@ pub extern "C" fn tamburelvi_source_at(
     mark: u64,
     at: usize,
 ) -> SourceRead
-    requires { ⌜ (receiverOf header .discovery .«source_count» ≤ 64) × (length (now sources) ≡ 64) ⌝ }
+    requires { ⌜ length (now sources) ≡ 64 ⌝ }
     ensures placed { λ r. ⌜ ((names pages : List (List ℕ)) (universes : List ℕ) → SourceAt mark at (r .place) (receiverOf header .discovery) (now (sources .entry)) names pages universes) ⌝ }
-    ensures told { λ r. ⌜ (r .place < 64 → HeadRead (getD (now (sources .entry)) (r .place) []) (headRead r)) ⌝ }
+    ensures told { λ r. ⌜ (r .place < receiverOf header .discovery .«source_count» → HeadRead (getD (now (sources .entry)) (r .place) []) (headRead r)) ⌝ }
+    ensures past { λ r. ⌜ (receiverOf header .discovery .«source_count» ≤ r .place → r ≡ no-source (r .place)) ⌝ }
 {
     let d = Discovery {
         source_count: header.sources,
@@ -276,7 +276,7 @@ pub extern "C" fn tamburelvi_source_at(
         used: header.page_universes,
     };
     let place = source_place(d, sources, mark, at);
-    if 64 <= place {
+    if header.sources <= place {
         return SourceRead {
             hi: 0,
             lo: 0,
@@ -308,9 +308,10 @@ pub extern "C" fn tamburelvi_page_at(
     lo: u64,
     at: usize,
 ) -> PageRead
-    requires { ⌜ (receiverOf header .discovery .«page_count» ≤ 64) × (length (now pages) ≡ 64) × Few (take (receiverOf header .discovery .«page_count») (now pages)) ⌝ }
+    requires { ⌜ length (now pages) ≡ 64 ⌝ }
     ensures placed { λ r. ⌜ ((universes : List ℕ) → PageAt mark (record { hi = hi; lo = lo }) at (r .place) (receiverOf header .discovery) (now (pages .entry)) universes) ⌝ }
-    ensures told { λ r. ⌜ (r .place < receiverOf header .discovery .«page_count» → (universes : List ℕ) → page-of-row (now (pages .entry)) universes (r .place) ≡ pageRead r universes) ⌝ }
+    ensures told { λ r. ⌜ (r .place < receiverOf header .discovery .«page_count» → (universes : List ℕ) → length universes ≤ longest → page-of-row (now (pages .entry)) universes (r .place) ≡ pageRead r universes) ⌝ }
+    ensures past { λ r. ⌜ (receiverOf header .discovery .«page_count» ≤ r .place → r ≡ no-page (r .place)) ⌝ }
 {
     let d = Discovery {
         source_count: header.sources,
@@ -327,7 +328,7 @@ pub extern "C" fn tamburelvi_page_at(
             place: place,
         };
     }
-    let start = offset(pages, place);
+    let start = page_start(pages, place, LONGEST);
     let row = pages[place];
     let h = page_head(row);
     PageRead {
@@ -337,3 +338,6 @@ pub extern "C" fn tamburelvi_page_at(
         place: place,
     }
 }
+
+// No part that a caller lends is longer.
+const LONGEST: usize = 9223372036854775807;

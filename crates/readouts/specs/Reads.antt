@@ -1,13 +1,14 @@
 -- What is read out of the sources' rows: the k-th entry of a list that passes a test, where it stands, and how many there are.
 -- Assumes nothing.
-use mathlib.Core.Path.{_≡_, refl, ap, _∙_}
+use mathlib.Core.Path.{_≡_, refl, sym, ap, _∙_}
 use mathlib.Core.Bool.{Bool, true, false, cond}
 use mathlib.Core.List.{List, [], _∷_}
-use Prim.Native.Nat.{ℕ, zero, suc, _+_, _-_, _*_, _≤_, _<_}
+use Prim.Native.Nat.{ℕ, zero, suc, _+_, _-_, _*_, _≤_, _<_, min}
 use native.Mathlib.Omega.{arith}
-use lib.Dec.{eqb}
-use lib.ListN.{length, take, drop, getD, length-take}
-use lib.Seq.{getD-take, drop-drop, take-take}
+use lib.Dec.{eqb, ltb}
+use lib.ListN.{length, take, drop, getD, length-take, length-drop, drop-of-length-le}
+use lib.Seq.{getD-take, drop-drop, take-take, take-all, take-nil}
+use borrow.Author.Tests.{ltb-true, ltb-false}
 use Rattle.table.specs.Cases.{split}
 use Rattle.table.specs.Table.{keep}
 use Rattle.table.specs.Arrays.{next}
@@ -17,7 +18,7 @@ use Rattle.readouts.specs.declared.SourceHead.{SourceHead}
 use Rattle.readouts.specs.declared.PageHead.{PageHead}
 use Rattle.discovery.specs.Discovery.{Page, Source}
 use Rattle.discovery.specs.Store.{pages-at, sourceOf, sources-at, viewOf}
-use Rattle.discovery.specs.Rows.{owned, headOf, leafAt, heads, leaves, total, amount, Few, Packing, total-few, few-less, few-at}
+use Rattle.discovery.specs.Rows.{owned, headOf, leafAt, heads, leaves, total, amount}
 use Rattle.discovery.specs.View.{headsOf, leavesOf, discoveredOf}
 
 -- how many entries stand before the k-th that passes the test; all of them where there are not so many
@@ -176,13 +177,24 @@ pages-of m c d P U = pages-at m (leavesOf d P U) c
 pub record SourceAt (m k r : ℕ) (d : Discovery) (S N P : List (List ℕ)) (U : List ℕ) : Type 0 where
   pub held : (other : Source) → k < length (sources-of m d S N P U) → (r < d .«source_count») × (getD (sources-of m d S N P U) k other ≡ source-of-row m d S N P U r)
   pub past : length (sources-of m d S N P U) ≤ k → r ≡ d .«source_count»
+  pub inside : r < d .«source_count» → r < length S
 
 -- and so for the k-th page of a source
 pub record PageAt (m : ℕ) (c : Cid) (k r : ℕ) (d : Discovery) (P : List (List ℕ)) (U : List ℕ) : Type 0 where
   pub held : (other : Page) → k < length (pages-of m c d P U) → (r < d .«page_count») × (getD (pages-of m c d P U) k other ≡ page-of-row P U r)
   pub past : length (pages-of m c d P U) ≤ k → r ≡ d .«page_count»
+  pub inside : r < d .«page_count» → r < length P
 
-module _ (m : ℕ) (d : Discovery) (S N P : List (List ℕ)) (U : List ℕ) (k : ℕ) (few : d .«source_count» ≤ 64) (rows : length S ≡ 64) where
+-- a count past the rows is the count of the rows
+pub take-within : (count n : ℕ) (rows : List (List ℕ)) → length rows ≡ 64 → n ≡ min count 64 → take n rows ≡ take count rows
+take-within count n rows l e =
+    split (ltb 64 count)
+    (λ h.
+    let g = ltb-true 64 count h in
+    take-all n rows (omega arith) ∙ sym (take-all count rows (omega arith)))
+    (λ h. let g = ltb-false 64 count h in let z : n ≡ count = omega arith in ap (λ (m : ℕ). take m rows) z)
+
+module _ (m : ℕ) (d : Discovery) (S N P : List (List ℕ)) (U : List ℕ) (k : ℕ) where
   source-placed : (s₀ : Source) → k < length (sources-of m d S N P U)
       → (nth (marked-row m) k (take (d .«source_count») S) < d .«source_count»)
       × (getD (sources-of m d S N P U) k s₀ ≡ source-of-row m d S N P U (nth (marked-row m) k (take (d .«source_count») S)))
@@ -200,18 +212,42 @@ module _ (m : ℕ) (d : Discovery) (S N P : List (List ℕ)) (U : List ℕ) (k :
             ∙ ap (λ (x : List ℕ). sourceOf Q (headOf (getD S r []) x)) (getD-take n N r [] i),
       )
 
-  source-past : length (sources-of m d S N P U) ≤ k → nth (marked-row m) k (take (d .«source_count») S) ≡ d .«source_count»
+  source-past : length (sources-of m d S N P U) ≤ k → nth (marked-row m) k (take (d .«source_count») S) ≡ length (take (d .«source_count») S)
   unfolding headsOf
   source-past h =
       let n = d .«source_count» in
       let e = sources-count m (take n S) (take n N) (pages-at m (leavesOf d P U)) in
-      let t = length-take n S in
-      nth-none (marked-row m) k (take n S) (omega arith) ∙ omega arith
+      nth-none (marked-row m) k (take n S) (omega arith)
 
-  pub source-at : (r : ℕ) → r ≡ nth (marked-row m) k (take (d .«source_count») S) → SourceAt m k r d S N P U
-  source-at r e = record { held = λ s₀ h. rw e (source-placed s₀ h); past = λ h. e ∙ source-past h }
+  source-inside : k < length (sources-of m d S N P U) → nth (marked-row m) k (take (d .«source_count») S) < length (take (d .«source_count») S)
+  unfolding headsOf
+  source-inside h =
+      let n = d .«source_count» in
+      let e = sources-count m (take n S) (take n N) (pages-at m (leavesOf d P U)) in
+      nth-keep (marked-row m) k (take n S) [] (omega arith) .0
 
-module _ (m : ℕ) (c : Cid) (d : Discovery) (P : List (List ℕ)) (U : List ℕ) (k : ℕ) (few : d .«page_count» ≤ 64) (rows : length P ≡ 64) where
+  -- as far as there are rows: a row holds it, or there are not so many
+  pub source-at : (n r : ℕ) → length S ≡ 64 → n ≡ min (d .«source_count») 64 → r ≡ nth (marked-row m) k (take n S) → r < n → SourceAt m k r d S N P U
+  source-at n r l f e h =
+      let c = d .«source_count» in
+      let x : r ≡ nth (marked-row m) k (take c S) = e ∙ ap (nth (marked-row m) k) (take-within c n S l f) in
+      record {
+        held = λ s₀ g. rw x (source-placed s₀ g);
+        past = λ g. absurd (omega (arith, x, source-past g, length-take c S));
+        inside = λ g. omega arith;
+      }
+
+  pub source-none : (n r : ℕ) → length S ≡ 64 → n ≡ min (d .«source_count») 64 → r ≡ nth (marked-row m) k (take n S) → n ≤ r → SourceAt m k (d .«source_count») d S N P U
+  source-none n r l f e h =
+      let c = d .«source_count» in
+      let x : r ≡ nth (marked-row m) k (take c S) = e ∙ ap (nth (marked-row m) k) (take-within c n S l f) in
+      record {
+        held = λ s₀ g. absurd (omega (arith, x, source-inside g, length-take c S));
+        past = λ g. refl;
+        inside = λ g. absurd (omega arith);
+      }
+
+module _ (m : ℕ) (c : Cid) (d : Discovery) (P : List (List ℕ)) (U : List ℕ) (k : ℕ) where
   page-placed : (p₀ : Page) → k < length (pages-of m c d P U)
       → (nth (owned m c) k (take (d .«page_count») P) < d .«page_count»)
       × (getD (pages-of m c d P U) k p₀ ≡ page-of-row P U (nth (owned m c) k (take (d .«page_count») P)))
@@ -229,42 +265,79 @@ module _ (m : ℕ) (c : Cid) (d : Discovery) (P : List (List ℕ)) (U : List ℕ
             ∙ ap (λ (x : List (List ℕ)). leafAt (getD P r []) (drop (total x) U) .page) (take-take r n P j),
       )
 
-  page-past : length (pages-of m c d P U) ≤ k → nth (owned m c) k (take (d .«page_count») P) ≡ d .«page_count»
+  page-past : length (pages-of m c d P U) ≤ k → nth (owned m c) k (take (d .«page_count») P) ≡ length (take (d .«page_count») P)
   unfolding leavesOf
   page-past h =
       let n = d .«page_count» in
       let e = pages-count m c (take n P) U in
-      let t = length-take n P in
-      nth-none (owned m c) k (take n P) (omega arith) ∙ omega arith
+      nth-none (owned m c) k (take n P) (omega arith)
 
-  pub page-at : (r : ℕ) → r ≡ nth (owned m c) k (take (d .«page_count») P) → PageAt m c k r d P U
-  page-at r e = record { held = λ p₀ h. rw e (page-placed p₀ h); past = λ h. e ∙ page-past h }
+  page-held : k < length (pages-of m c d P U) → nth (owned m c) k (take (d .«page_count») P) < length (take (d .«page_count») P)
+  unfolding leavesOf
+  page-held h =
+      let n = d .«page_count» in
+      let e = pages-count m c (take n P) U in
+      nth-keep (owned m c) k (take n P) [] (omega arith) .0
+
+  pub page-at : (n r : ℕ) → length P ≡ 64 → n ≡ min (d .«page_count») 64 → r ≡ nth (owned m c) k (take n P) → r < n → PageAt m c k r d P U
+  page-at n r l f e h =
+      let q = d .«page_count» in
+      let x : r ≡ nth (owned m c) k (take q P) = e ∙ ap (nth (owned m c) k) (take-within q n P l f) in
+      record {
+        held = λ p₀ g. rw x (page-placed p₀ g);
+        past = λ g. absurd (omega (arith, x, page-past g, length-take q P));
+        inside = λ g. omega arith;
+      }
+
+  pub page-none : (n r : ℕ) → length P ≡ 64 → n ≡ min (d .«page_count») 64 → r ≡ nth (owned m c) k (take n P) → n ≤ r → PageAt m c k (d .«page_count») d P U
+  page-none n r l f e h =
+      let q = d .«page_count» in
+      let x : r ≡ nth (owned m c) k (take q P) = e ∙ ap (nth (owned m c) k) (take-within q n P l f) in
+      record {
+        held = λ p₀ g. absurd (omega (arith, x, page-held g, length-take q P));
+        past = λ g. refl;
+        inside = λ g. absurd (omega arith);
+      }
 
 pub page-number : (m : ℕ) (c : Cid) (d : Discovery) (P : List (List ℕ)) (U : List ℕ) → length (pages-at m (leavesOf d P U) c) ≡ length (keep (owned m c) (take (d .«page_count») P))
 unfolding leavesOf
 page-number m c d P U = pages-count m c (take (d .«page_count») P) U
 
 -- ── a page's universes in the pool ──
-module _ (n at : ℕ) (P : List (List ℕ)) (U : List ℕ) (k : Packing n P U) (h : at < n) where
-  pub few-before : Few (take at P)
-  few-before = few-less at n P (omega arith) (k .few)
+getD-past : {A : Type 0} (l : List A) (i : ℕ) (d : A) → length l ≤ i → getD l i d ≡ d
+getD-past [] i d h = refl
+getD-past (x ∷ l) zero d h = absurd (omega arith)
+getD-past (x ∷ l) (suc i) d h = getD-past l i d (omega arith)
 
-  -- 64 pages of at most 512 fit
-  pub page-inside : (o : ℕ) → o ≡ total (take at P) → (o + amount (getD P at []) ≤ length U) × (o + amount (getD P at []) ≤ 32768)
-  page-inside o e =
-      let w = k .within in
-      let l = k .rows in
-      let u = k .pool in
-      let a = total-few (take at P) few-before in
-      let b = few-at P n at (k .few) h (omega arith) in
-      (omega (arith, length-take at P), omega (arith, length-take at P))
-
-  pub page-part : (o : ℕ) → o ≡ total (take at P) → take (o + amount (getD P at []) - o) (drop o U) ≡ page-of-row P U at .universes
+-- as far as they lie in the pool
+module _ (P : List (List ℕ)) (U : List ℕ) (at start end : ℕ) (s : start ≡ min (total (take at P)) (length U)) (e : end ≡ min (start + amount (getD P at [])) (length U)) where
+  pub page-part : take (end - start) (drop start U) ≡ page-of-row P U at .universes
   unfolding page-of-row
-  page-part o e =
-      let m = amount (getD P at []) in
-      let z : o + m - o ≡ m = omega arith in
-      ap (λ (x : ℕ). take x (drop o U)) z ∙ ap (λ (x : ℕ). take m (drop x U)) e
+  page-part =
+      let t = total (take at P) in
+      let n = amount (getD P at []) in
+      split (ltb t (length U))
+      (λ h.
+      let g = ltb-true t (length U) h in
+      let x : start ≡ t = omega arith in
+      let q : take (end - start) (drop t U) ≡ take n (drop t U) = part-within n (end - start) (drop t U) (omega (arith, length-drop t U)) in
+      ap (λ (j : ℕ). take (end - start) (drop j U)) x ∙ q)
+      (λ h.
+      let g = ltb-false t (length U) h in
+      let x : start ≡ length U = omega arith in
+      ap (take (end - start)) (drop-of-length-le U {i = start} (omega arith)) ∙ take-nil (end - start) ∙ sym (ap (take n) (drop-of-length-le U {i = t} g) ∙ take-nil n))
+    where
+      -- no more can be taken than there is
+      part-within : (n m : ℕ) (l : List ℕ) → m ≡ min n (length l) → take m l ≡ take n l
+      part-within n m l e =
+          split (ltb (length l) n)
+          (λ h. let g = ltb-true (length l) n h in take-all m l (omega arith) ∙ sym (take-all n l (omega arith)))
+          (λ h. let g = ltb-false (length l) n h in let z : m ≡ n = omega arith in ap (λ (j : ℕ). take j l) z)
+
+-- no row has no universes
+pub page-missing : (P : List (List ℕ)) (U : List ℕ) (at : ℕ) → length P ≤ at → page-of-row P U at .universes ≡ []
+unfolding page-of-row
+page-missing P U at h = ap (λ (r : List ℕ). take (getD r 4 0) (drop (total (take at P)) U)) (getD-past P at [] h)
 
 -- ── what a row says ──
 -- a source's row: the fields of its head

@@ -1,17 +1,26 @@
 // What is known of the sources, read out for a dump: how many, which row holds which, what a row says.
 ghost use mathlib.Core.Path.{_≡_};
 ghost use mathlib.Core.List.{List, []};
-ghost use Prim.Native.Nat.{ℕ, _≤_, _<_};
+ghost use Prim.Native.Nat.{ℕ, _+_, _≤_, _<_, min};
 ghost use lib.ListN.{length, take};
 ghost use Rattle.table.specs.Table.{keep};
 ghost use Rattle.discovery.specs.Store.{pages-at};
-ghost use Rattle.discovery.specs.Rows.{owned, Packing};
+ghost use Rattle.discovery.specs.Rows.{owned, total};
 ghost use Rattle.discovery.specs.View.{leavesOf, discoveredOf};
 ghost use Rattle.readouts.specs.Reads.{nth, marked-row, page-of-row, SourceAt, PageAt, HeadRead, PageRead};
 use discovery::Discovery;
 use discovery::owners::is_page_of;
-use discovery::owners::offset;
 use rules::Cid;
+
+// A count, as far as there are rows.
+pub fn within(count: usize) -> usize
+    ensures { λ r. ⌜ r ≡ min count 64 ⌝ }
+{
+    if 64 < count {
+        return 64;
+    }
+    count
+}
 
 fn is_marked(row: [u64; 6], mark: u64) -> bool
     ensures { λ r. ⌜ r ≡ marked-row mark row ⌝ }
@@ -99,34 +108,42 @@ fn nth_page(pages: &[[u64; 5]; 64], count: usize, mark: u64, cid: Cid, k: usize)
 
 // How many sources are partial.
 pub fn partial_count(discovery: Discovery, sources: &[[u64; 6]; 64]) -> usize
-    requires { ⌜ (discovery .«source_count» ≤ 64) × (length (now sources) ≡ 64) ⌝ }
+    requires { ⌜ length (now sources) ≡ 64 ⌝ }
     ensures { λ r. ⌜ ((names pages : List (List ℕ)) (universes : List ℕ) → r ≡ length (discoveredOf discovery (now (sources .entry)) names pages universes .partial)) ⌝ }
 {
-    count_sources(sources, discovery.source_count, 0)
+    let count = within(discovery.source_count);
+    count_sources(sources, count, 0)
 }
 
 // How many sources are listed.
 pub fn listed_count(discovery: Discovery, sources: &[[u64; 6]; 64]) -> usize
-    requires { ⌜ (discovery .«source_count» ≤ 64) × (length (now sources) ≡ 64) ⌝ }
+    requires { ⌜ length (now sources) ≡ 64 ⌝ }
     ensures { λ r. ⌜ ((names pages : List (List ℕ)) (universes : List ℕ) → r ≡ length (discoveredOf discovery (now (sources .entry)) names pages universes .listed)) ⌝ }
 {
-    count_sources(sources, discovery.source_count, 1)
+    let count = within(discovery.source_count);
+    count_sources(sources, count, 1)
 }
 
 // Which row holds the k-th partial source (mark 0) or the k-th listed one (mark 1), from 0; the count of sources if there are not so many.
 pub fn source_place(discovery: Discovery, sources: &[[u64; 6]; 64], mark: u64, k: usize) -> usize
-    requires { ⌜ (discovery .«source_count» ≤ 64) × (length (now sources) ≡ 64) ⌝ }
+    requires { ⌜ length (now sources) ≡ 64 ⌝ }
     ensures { λ r. ⌜ ((names pages : List (List ℕ)) (universes : List ℕ) → SourceAt mark k r discovery (now (sources .entry)) names pages universes) ⌝ }
 {
-    nth_source(sources, discovery.source_count, mark, k)
+    let count = within(discovery.source_count);
+    let place = nth_source(sources, count, mark, k);
+    if count <= place {
+        return discovery.source_count;
+    }
+    place
 }
 
 // How many pages the source of this mark has.
 pub fn page_total(discovery: Discovery, pages: &[[u64; 5]; 64], mark: u64, cid: Cid) -> usize
-    requires { ⌜ (discovery .«page_count» ≤ 64) × (length (now pages) ≡ 64) ⌝ }
+    requires { ⌜ length (now pages) ≡ 64 ⌝ }
     ensures { λ r. ⌜ ((universes : List ℕ) → r ≡ length (pages-at mark (leavesOf discovery (now (pages .entry)) universes) cid)) ⌝ }
 {
-    count_pages(pages, discovery.page_count, mark, cid)
+    let count = within(discovery.page_count);
+    count_pages(pages, count, mark, cid)
 }
 
 // Which row holds the k-th page of the source of this mark, from 0; the count of pages if it has not so many.
@@ -137,29 +154,63 @@ pub fn place_of_page(
     cid: Cid,
     k: usize,
 ) -> usize
-    requires { ⌜ (discovery .«page_count» ≤ 64) × (length (now pages) ≡ 64) ⌝ }
+    requires { ⌜ length (now pages) ≡ 64 ⌝ }
     ensures { λ r. ⌜ ((universes : List ℕ) → PageAt mark cid k r discovery (now (pages .entry)) universes) ⌝ }
 {
-    nth_page(pages, discovery.page_count, mark, cid, k)
+    let count = within(discovery.page_count);
+    let place = nth_page(pages, count, mark, cid, k);
+    if count <= place {
+        return discovery.page_count;
+    }
+    place
 }
 
-// The universes of the page in this row, where they lie in the pool; none past the last page.
+// Where the universes of the page in this row begin, or most if that is past it.
+pub fn page_start(pages: &[[u64; 5]; 64], at: usize, most: usize) -> usize
+    requires { ⌜ (at ≤ 64) × (length (now pages) ≡ 64) ⌝ }
+    ensures { λ r. ⌜ r ≡ min (total (take at (now (pages .entry)))) most ⌝ }
+{
+    let mut start: usize = 0;
+    let mut i = 0;
+    while i < at {
+        let row = pages[i];
+        i += 1;
+        start = advance(start, row[4], most);
+    }
+    start
+}
+
+// n further, but not past most.
+fn advance(start: usize, n: u64, most: usize) -> usize
+    requires { ⌜ start ≤ most ⌝ }
+    ensures { λ r. ⌜ r ≡ min (start + n) most ⌝ }
+{
+    let left = most - start;
+    if left as u64 <= n {
+        return most;
+    }
+    start + n as usize
+}
+
+// The universes of the page in this row, as far as they lie in the pool; none past the last page.
 pub fn page_universes<'a>(
     discovery: Discovery,
     pages: &[[u64; 5]; 64],
     universes: &'a [u16],
     at: usize,
 ) -> &'a [u16]
-    requires { ⌜ Packing (discovery .«page_count») (now pages) (now universes) ⌝ }
+    requires { ⌜ length (now pages) ≡ 64 ⌝ }
     ensures held { λ r. ⌜ (at < discovery .«page_count» → now r ≡ page-of-row (now (pages .entry)) (now (universes .entry)) at .universes) ⌝ }
     ensures past { λ r. ⌜ (discovery .«page_count» ≤ at → now r ≡ []) ⌝ }
 {
-    if discovery.page_count <= at {
+    let count = within(discovery.page_count);
+    if count <= at {
         return &universes[0..0];
     }
-    let start = offset(pages, at);
+    let most = universes.len();
+    let start = page_start(pages, at, most);
     let row = pages[at];
-    let end = start + row[4] as usize;
+    let end = advance(start, row[4], most);
     &universes[start..end]
 }
 

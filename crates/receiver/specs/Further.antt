@@ -32,6 +32,7 @@ use Rattle.listening.specs.View as listening
 use Rattle.discovery.specs.declared.Discovery.{Discovery}
 use Rattle.discovery.specs.Discovery.{swept}
 use Rattle.discovery.specs.View.{Holds, Emptied}
+use Rattle.discovery.specs.Lent as pool
 use Rattle.space.specs.Space.{bytes}
 use Rattle.model.specs.declared.PollAnswer.the-variants as polling
 use Rattle.model.specs.declared.ExpiryAnswer.the-variants as expiry
@@ -84,7 +85,7 @@ module _ (S : Settings) (now : ℕ) (r : Receiver) (m : Memory) where
   poll-long e = rw (e, poll-call)
 
   pub does-poll-short : (n : ℕ) → short waiting-bytes (length (m .store)) ≡ some n → Does (poll-call (length (m .store)) S now) pollNumber r m r m (polling.TooShort n)
-  does-poll-short n e = record { outcome-is = poll-short n e; kept = λ k. k; all-left = λ z. (refl, refl); lent-waiting = lent-none (m .rows) (m .store) }
+  does-poll-short n e = record { outcome-is = poll-short n e; kept = λ k. k; all-left = λ z. (refl, refl); lent-waiting = lent-none (m .rows) (m .store); lent-pages = pool.lent-none (m .universes) }
 
   module _ (q : SequenceNumbering) (n : numbered.Lent) (w : Waiting) (rows : Rows) (store : List ℕ) (a : SweepAnswer) (z : short waiting-bytes (length (m .store)) ≡ none)
       (p : Polls S now (r .sequences) (numbersIn m) (r .waiting .count) (m .rows) (m .store) q n (w .count) rows store a) where
@@ -106,6 +107,7 @@ module _ (S : Settings) (now : ℕ) (r : Receiver) (m : Memory) where
       kept = polled-kept S now r m p;
       all-left = λ f. clash f refl;
       lent-waiting = p .lent-waiting;
+      lent-pages = pool.lent-none (m .universes);
     }
 
     pub does-poll : a ≡ Quiet → Does (poll-call (length (m .store)) S now) pollNumber r m next left polling.Polled
@@ -115,13 +117,14 @@ module _ (S : Settings) (now : ℕ) (r : Receiver) (m : Memory) where
       kept = polled-kept S now r m p;
       all-left = λ f. clash f refl;
       lent-waiting = p .lent-waiting;
+      lent-pages = pool.lent-none (m .universes);
     }
 
 -- ── the discovery sweep ──
 module _ (now : ℕ) (r : Receiver) (m : Memory) where
   pub does-expiry-short : (n : ℕ) → short page-bytes (bytes (m .universes)) ≡ some n → Does (expiry-call (bytes (m .universes)) now) expiryNumber r m r m (expiry.TooShort n)
   unfolding expiry-call
-  does-expiry-short n e = record { outcome-is = rw (e, expiry-call); kept = λ k. k; all-left = λ z. (refl, refl); lent-waiting = lent-none (m .rows) (m .store) }
+  does-expiry-short n e = record { outcome-is = rw (e, expiry-call); kept = λ k. k; all-left = λ z. (refl, refl); lent-waiting = lent-none (m .rows) (m .store); lent-pages = pool.lent-none (m .universes) }
 
   expiry-long : short page-bytes (bytes (m .universes)) ≡ none
       → expiry-call (bytes (m .universes)) now (stateOf r m) ≡ (with-discovered (swept data-loss now (stateOf r m .discovered)) (stateOf r m), expiry.Swept)
@@ -129,7 +132,7 @@ module _ (now : ℕ) (r : Receiver) (m : Memory) where
   expiry-long e = rw (e, expiry-call)
 
   pub does-expiry : (d : Discovery) (sources names pages : Rows) (universes : List ℕ) → short page-bytes (bytes (m .universes)) ≡ none
-      → Holds d sources names pages universes (swept data-loss now (stateOf r m .discovered))
+      → Holds (m .universes) d sources names pages universes (swept data-loss now (stateOf r m .discovered))
       → Does (expiry-call (bytes (m .universes)) now) expiryNumber r m (record { sequences = r .sequences; waiting = r .waiting; listened = r .listened; discovery = d })
       (with-found sources names pages universes m) expiry.Swept
   does-expiry d sources names pages universes e h = record {
@@ -137,6 +140,7 @@ module _ (now : ℕ) (r : Receiver) (m : Memory) where
     kept = λ k. record { kept-sequences = k .kept-sequences; kept-waiting = k .kept-waiting; kept-listened = k .kept-listened; kept-discovery = λ z. h .kept };
     all-left = λ f. clash f refl;
     lent-waiting = lent-none (m .rows) (m .store);
+    lent-pages = h .lent;
   }
 
 -- what a pool that is long enough says of its length
@@ -183,6 +187,7 @@ module _ (r : Receiver) (m : Memory) (k : listening.Kept (r .listened) (m .heard
         left-all (a .listened) heard (l .refused n) (l .kept)
         (ap (λ (x : List ℕ × ListenAnswer). x .0) (l .view) ∙ refused-list us (listenedOf (r .listened) (m .heard)) (λ e. n (ap (λ (x : List ℕ × ListenAnswer). x .1) (l .view) ∙ e)));
     lent-waiting = lent-none (m .rows) (m .store);
+    lent-pages = pool.lent-none (m .universes);
   }
 
   pub does-mute : (u : ℕ) (a : MuteDone) (heard : List ℕ) → Mutes u (r .listened) (m .heard) a heard
@@ -196,13 +201,14 @@ module _ (r : Receiver) (m : Memory) (k : listening.Kept (r .listened) (m .heard
         left-all (a .listened) heard (l .refused n) (l .kept)
         (ap (λ (x : List ℕ × MuteAnswer). x .0) (l .view) ∙ muted-refused u (listenedOf (r .listened) (m .heard)) (λ e. n (ap (λ (x : List ℕ × MuteAnswer). x .1) (l .view) ∙ e)));
     lent-waiting = lent-none (m .rows) (m .store);
+    lent-pages = pool.lent-none (m .universes);
   }
 
 -- ── waiting data ──
 module _ (u : ℕ) (r : Receiver) (m : Memory) where
   pub does-clear-short : (n : ℕ) → short waiting-bytes (length (m .store)) ≡ some n → Does (clear-call (length (m .store)) u) clearNumber r m r m (clearing.TooShort n)
   unfolding clear-call
-  does-clear-short n e = record { outcome-is = rw (e, clear-call); kept = λ k. k; all-left = λ z. (refl, refl); lent-waiting = lent-none (m .rows) (m .store) }
+  does-clear-short n e = record { outcome-is = rw (e, clear-call); kept = λ k. k; all-left = λ z. (refl, refl); lent-waiting = lent-none (m .rows) (m .store); lent-pages = pool.lent-none (m .universes) }
 
   clear-long : short waiting-bytes (length (m .store)) ≡ none
       → clear-call (length (m .store)) u (stateOf r m)
@@ -220,6 +226,7 @@ module _ (u : ℕ) (r : Receiver) (m : Memory) where
     kept = λ k. record { kept-sequences = k .kept-sequences; kept-waiting = λ h. y .kept; kept-listened = k .kept-listened; kept-discovery = k .kept-discovery };
     all-left = λ z. clash z refl;
     lent-waiting = y .lent;
+    lent-pages = pool.lent-none (m .universes);
   }
 
 pub clears-all : (r : Receiver) (w : Waiting) (m : Memory) → Empty (w .count)

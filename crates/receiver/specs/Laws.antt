@@ -1,6 +1,6 @@
 -- One law for each return of the receiver's calls.
 -- Assumes nothing.
-use mathlib.Core.Path.{_≡_, refl, sym, ap, _∙_}
+use mathlib.Core.Path.{_≡_, refl, sym, ap, subst, _∙_}
 use mathlib.Core.Bool.{Bool, true, false, cond, not, _&&_}
 use mathlib.Core.Option.{Option, none, some}
 use mathlib.Core.List.{List, []}
@@ -12,9 +12,9 @@ use lib.ListN.{length}
 use borrow.Author.Tests.{ltb-false}
 use Rattle.table.specs.Cases.{split, found, clash, missing}
 use Rattle.rules.specs.declared.Cid.{Cid}
-use Rattle.rules.specs.Answer.{first-of}
+use Rattle.rules.specs.Answer.{Value, first-of}
 use Rattle.settings.specs.declared.Settings.{Settings}
-use Rattle.pairs.specs.View.{Rows}
+use Rattle.pairs.specs.View.{Rows, answerOf, sweepNumberOf, sweepValuesOf}
 use Rattle.pairs.specs.Table.{Key, key, pairAt}
 use Rattle.pairs.specs.declared.DataTable.{DataTable}
 use Rattle.pairs.specs.declared.SyncTable.{SyncTable}
@@ -23,19 +23,25 @@ use Rattle.pairs.specs.declared.SweepAnswer.the-variants.{Quiet, TimedOut}
 use Rattle.sequences.specs.declared.SequenceNumbering.{SequenceNumbering}
 use Rattle.sequences.specs.Sequences.{numbers, removed}
 use Rattle.sequences.specs.View as numbered
-use Rattle.sequences.specs.Laws.{answer-some, answer-none}
+use Rattle.sequences.specs.Laws.{answer-some, answer-none, removed-found}
 use Rattle.waiting.specs.declared.Waiting.{Waiting}
-use Rattle.waiting.specs.Records.{records, most-bytes}
+use Rattle.waiting.specs.Records.{most-bytes}
+use Rattle.waiting.specs.Laws.{over-none}
 use Rattle.waiting.specs.Entries.{store-length, lent-none, lent-then}
 use Rattle.waiting.specs.Entries as waiting
 use Rattle.listening.specs.declared.Listened.{Listened}
 use Rattle.discovery.specs.declared.Discovery.{Discovery}
-use Rattle.discovery.specs.declared.PageArrived.{PageArrived}
+use Rattle.discovery.specs.declared.PageAnswer.{PageAnswer}
+use Rattle.discovery.specs.declared.PageAnswer.the-variants as page
+use Rattle.discovery.specs.declared.PageCall.{PageCall}
+use Rattle.discovery.specs.declared.PageCall.the-variants as paging
+use Rattle.discovery.specs.declared.PageCalled.{PageCalled}
 use Rattle.merge.specs.Merge.{most-values}
-use Rattle.discovery.specs.Discovery.{Announcement, most-name, most-universes, arrived, ended}
+use Rattle.discovery.specs.Discovery.{Announcement, Discovered, most-name, most-universes, arrived, ended}
 use Rattle.discovery.specs.View.{discoveredOf, Holds}
 use Rattle.discovery.specs.View as discovery
-use Rattle.discovery.specs.Arrive.{Arrival}
+use Rattle.discovery.specs.Arrive.{Called, page-call-fits}
+use Rattle.discovery.specs.Lent as pool
 use Rattle.space.specs.declared.Measured.{Measured}
 use Rattle.space.specs.declared.Measured.the-variants as measured
 use Rattle.space.specs.Space.{spaceOf, shortage, excess}
@@ -47,8 +53,10 @@ use Rattle.model.specs.Step as model
 use Rattle.model.specs.Step.{Space, outcome, short, too-short, page-bytes, poll, polled, data-step, terminated, sync-step, discovery-step, listed, packet-step, step}
 use Rattle.steps.specs.View.{Polls, Arrives, Synchronises, rowsOf, lentOf}
 use Rattle.receiver.specs.declared.Receiver.{Receiver}
+use Rattle.receiver.specs.declared.Course.{Course}
+use Rattle.receiver.specs.declared.Course.the-variants as course
 use Rattle.receiver.specs.declared.DiscoveryPacket.{DiscoveryPacket}
-use Rattle.receiver.specs.View.{Memory, numbersIn, with-numbers, with-sync-numbers, with-held, with-heard, with-found, stateOf, spaceIn, pool-length, Kept, longOf, announcementOf, Opens, Ends, Takes, Steps}
+use Rattle.receiver.specs.View.{Memory, numbersIn, with-numbers, with-sync-numbers, with-held, with-heard, with-found, stateOf, spaceIn, pool-length, Kept, longOf, announcementOf, opening, courseOf, Opens, Ends, called, Tells, Takes, Steps}
 
 -- ── lengths ──
 pub short-of : (x : Measured) (o : Option ℕ) (n : ℕ) → x ≡ shortage o → x ≡ measured.TooShort n → o ≡ some n
@@ -156,6 +164,8 @@ module _ (S : Settings) (now : ℕ) (long : Option ℕ) (r : Receiver) (m : Memo
     all-left = λ k e. (refl, refl);
     kept = λ k. k;
     lent-waiting = lent-none (m .rows) (m .store);
+    lent-pages = pool.lent-none (m .universes);
+    told = λ own i. opening (sym z i) long (poll S now (stateOf r m) .1);
   }
 
   pub opens-long : (n : ℕ) → too-short (spaceIn m out) ≡ none → long ≡ some n → Opens S now long r m out r m true (says.TooLong n)
@@ -166,6 +176,8 @@ module _ (S : Settings) (now : ℕ) (long : Option ℕ) (r : Receiver) (m : Memo
     all-left = λ k e. (refl, refl);
     kept = λ k. k;
     lent-waiting = lent-none (m .rows) (m .store);
+    lent-pages = pool.lent-none (m .universes);
+    told = λ own i. opening (sym z i) (sym l i) (poll S now (stateOf r m) .1);
   }
 
   module _ {q : SequenceNumbering} {n : numbered.Lent} {w : Waiting} {rows : Rows} {store : List ℕ} {a : SweepAnswer} (z : too-short (spaceIn m out) ≡ none) (l : long ≡ none)
@@ -185,6 +197,16 @@ module _ (S : Settings) (now : ℕ) (long : Option ℕ) (r : Receiver) (m : Memo
     tested : (k : ℕ) → first-of (too-short (spaceIn m out)) long ≡ some k → ⊥
     tested k e = missing k e (ap (λ (x : Option ℕ). first-of x long) z ∙ l)
 
+    -- the sweep's own answer
+    swept-told : poll S now (stateOf r m) .1 ≡ p .timed-out
+    swept-told = ap (λ (x : State × Option Key). x .1) (p .state-is (stateOf r m) refl refl refl)
+
+    sweep-first : (b : SweepAnswer) → a ≡ b → (sweepNumberOf b, sweepValuesOf b) ≡ opening (too-short (spaceIn m out)) long (poll S now (stateOf r m) .1)
+    sweep-first b e =
+        let x = sym e ∙ p .answer-is ∙ ap answerOf (sym swept-told) in
+        ap {B = ℕ × List Value} (λ (y : SweepAnswer). (sweepNumberOf y, sweepValuesOf y)) x
+        ∙ (λ i. opening (sym z i) (sym l i) (poll S now (stateOf r m) .1))
+
     pub opens-told : (c : Cid) (u : ℕ) → a ≡ TimedOut c u
         → Opens S now long r m out (record { sequences = q; waiting = w; listened = r .listened; discovery = r .discovery }) (with-numbers n (with-held rows store m)) true (says.UniverseTimeout c u)
     unfolding next left polled
@@ -195,6 +217,8 @@ module _ (S : Settings) (now : ℕ) (long : Option ℕ) (r : Receiver) (m : Memo
       all-left = λ k f. absurd (tested k f);
       kept = polled-kept S now r m p;
       lent-waiting = p .lent-waiting;
+      lent-pages = pool.lent-none (m .universes);
+      told = λ own. sweep-first (TimedOut c u) e;
     }
 
     pub opens-quiet : a ≡ Quiet
@@ -207,6 +231,8 @@ module _ (S : Settings) (now : ℕ) (long : Option ℕ) (r : Receiver) (m : Memo
       all-left = λ k f. absurd (tested k f);
       kept = polled-kept S now r m p;
       lent-waiting = p .lent-waiting;
+      lent-pages = pool.lent-none (m .universes);
+      told = λ own. sweep-first Quiet e;
     }
 
 -- what the parts of a step presuppose, where the opening let it go on
@@ -227,8 +253,14 @@ module _ (S : Settings) (now : ℕ) (long : Option ℕ) (r : Receiver) (m : Memo
 -- ── a packet that does nothing ──
 module _ (S : Settings) (now : ℕ) (p : Packet) (r : Receiver) (m : Memory) (out : List ℕ) where
   pub takes-nothing : (a : StepAnswer) → packet-step S now p (stateOf r m) ≡ outcome (stateOf r m) a → Takes S now p r m out r m out a
-  unfolding records
-  takes-nothing a e = record { released = []; outcome-is = e; written = refl; kept = λ k. k; lent-waiting = lent-none (m .rows) (m .store) }
+  takes-nothing a e = record {
+    released = [];
+    outcome-is = e;
+    written = sym (over-none out);
+    kept = λ k. k;
+    lent-waiting = lent-none (m .rows) (m .store);
+    lent-pages = pool.lent-none (m .universes);
+  }
 
 -- ── 4. synchronisation ──
 sync-unheard : (S : Settings) (now : ℕ) (y : SyncPacket) (s : State) → listens (y .address) (s .listened) ≡ false → packet-step S now (sync-packet y) s ≡ outcome s says.Nothing
@@ -258,33 +290,70 @@ module _ (S : Settings) (now : ℕ) (y : SyncPacket) (r : Receiver) (m : Memory)
       kept-discovery = k .kept-discovery;
     };
     lent-waiting = y′ .lent-waiting;
+    lent-pages = pool.lent-none (m .universes);
   }
 
 -- ── 5. discovery ──
 module _ (S : Settings) (now : ℕ) (p : DiscoveryPacket) (name list : List ℕ) (r : Receiver) (m : Memory) (out : List ℕ) where
-  pub takes-discovery : (d : PageArrived) (sources names pages : Rows) (universes : List ℕ) (a : StepAnswer)
-      → Arrival (r .discovery) (m .sources) (m .names) (m .pages) (m .universes) now (announcementOf p name list) d sources names pages universes → a ≡ listed S (d .answer)
+  pub takes-discovery : (d : PageCalled) (sources names pages : Rows) (universes : List ℕ) (a : StepAnswer) → length name ≤ 63 → length list ≤ 512
+      → Called (r .discovery) (m .sources) (m .names) (m .pages) (m .universes) now (announcementOf p name list) d sources names pages universes → a ≡ called S (d .answer)
       → Takes S now (discovery-packet (announcementOf p name list)) r m out
       (record { sequences = r .sequences; waiting = r .waiting; listened = r .listened; discovery = d .discovery }) (with-found sources names pages universes m) out a
-  unfolding packet-step discovery-step records
-  takes-discovery d sources names pages universes a t e =
+  unfolding packet-step discovery-step
+  takes-discovery d sources names pages universes a f h t e =
       let g = arrived now (announcementOf p name list) (stateOf r m .discovered) in
-      let u : g .0 ≡ discoveredOf (d .discovery) sources names pages universes = sym (t .took .seen) in
-      let v : listed S (g .1) ≡ a = sym (ap (listed S) (t .took .answered)) ∙ sym e in
+      let x = page-call-fits now (announcementOf p name list) (stateOf r m .discovered) f h in
+      let u : g .0 ≡ discoveredOf (d .discovery) sources names pages universes = sym (t .seen ∙ ap (λ (y : Discovered × PageCall). y .0) x) in
+      let v : listed S (g .1) ≡ a = sym (ap (called S) (t .answered ∙ ap (λ (y : Discovered × PageCall). y .1) x)) ∙ sym e in
       record {
         released = [];
         outcome-is = λ i. outcome (model.with-discovered (u i) (stateOf r m)) (v i);
-        written = refl;
+        written = sym (over-none out);
         kept = λ k. record {
           kept-sequences = k .kept-sequences;
           kept-waiting = k .kept-waiting;
           kept-listened = k .kept-listened;
-          kept-discovery = λ h. t .took .kept;
+          kept-discovery = λ z. t .kept;
         };
         lent-waiting = lent-none (m .rows) (m .store);
+        lent-pages = t .lent;
       }
 
+-- the answer keeps number and values
+tells-listed : (S : Settings) (a : PageAnswer) → Tells (paging.Done a) (listed S a)
+tells-listed S page.Taken = record { number-is = λ z. refl; values-are = λ z own. refl }
+tells-listed S page.Listed =
+    split (S .«announce_source_discovery»)
+    (λ e. rw e (record { number-is = λ z. clash refl z; values-are = λ z. clash refl z }))
+    (λ e. rw e (record { number-is = λ z. refl; values-are = λ z own. refl }))
+tells-listed S page.PagesFull = record { number-is = λ z. refl; values-are = λ z own. refl }
+
+tells-long : (n : ℕ) → Tells (paging.TooLong n) (says.TooLong n)
+tells-long n = record { number-is = λ z. refl; values-are = λ z own. refl }
+
+-- one law for each case of the call
+module _ (S : Settings) (a : PageCall) (r : StepAnswer) where
+  pub called-done : (p : PageAnswer) → a ≡ paging.Done p → r ≡ listed S p → (r ≡ called S a) × Tells a r
+  called-done p e f =
+      subst (λ (b : PageCall). (r ≡ called S b) × Tells b r) (sym e)
+      (subst (λ (x : StepAnswer). (x ≡ listed S p) × Tells (paging.Done p) x) (sym f) (refl, tells-listed S p))
+
+  pub called-long : (n : ℕ) → a ≡ paging.TooLong n → r ≡ says.TooLong n → (r ≡ called S a) × Tells a r
+  called-long n e f =
+      subst (λ (b : PageCall). (r ≡ called S b) × Tells b r) (sym e)
+      (subst (λ (x : StepAnswer). (x ≡ says.TooLong n) × Tells (paging.TooLong n) x) (sym f) (refl, tells-long n))
+
 -- ── 3. data ──
+-- the courses differ
+arrive-end : course.Arrive ≡ course.End → ⊥
+arrive-end e = let z : _≡_ {A = ℕ} 0 1 = cc in absurd (omega arith)
+
+pass-end : course.Pass ≡ course.End → ⊥
+pass-end e = let z : _≡_ {A = ℕ} 0 1 = cc in absurd (omega arith)
+
+pass-arrive : course.Pass ≡ course.Arrive → ⊥
+pass-arrive e = let z : _≡_ {A = ℕ} 0 1 = cc in absurd (omega arith)
+
 pub unwanted-off : (p b : Bool) → b ≡ true → false ≡ p && not b
 unwanted-off true b e = rw e
 unwanted-off false b e = refl
@@ -293,17 +362,47 @@ pub unwanted-on : (p b : Bool) → b ≡ false → p ≡ p && not b
 unwanted-on true b e = rw e
 unwanted-on false b e = refl
 
+-- what a course says of the packet
+module _ (t l : Bool) (x : Course) (e : x ≡ courseOf t l) where
+  pub course-end : x ≡ course.End → t ≡ true
+  course-end f =
+      split t
+      (λ h. h)
+      (λ h. split l
+      (λ g. let z : course.Arrive ≡ course.End = sym (e ∙ (rw (h, g))) ∙ f in absurd (arrive-end z))
+      (λ g. let z : course.Pass ≡ course.End = sym (e ∙ (rw (h, g))) ∙ f in absurd (pass-end z)))
+
+  pub course-arrive : x ≡ course.Arrive → (t ≡ false) × (l ≡ true)
+  course-arrive f =
+      split t
+      (λ h. let z : course.End ≡ course.Arrive = sym (e ∙ (rw h)) ∙ f in absurd (arrive-end (sym z)))
+      (λ h. split l
+      (λ g. (h, g))
+      (λ g. let z : course.Pass ≡ course.Arrive = sym (e ∙ (rw (h, g))) ∙ f in absurd (pass-arrive z)))
+
+  pub course-pass : x ≡ course.Pass → (t ≡ false) × (l ≡ false)
+  course-pass f =
+      split t
+      (λ h. let z : course.End ≡ course.Pass = sym (e ∙ (rw h)) ∙ f in absurd (pass-end (sym z)))
+      (λ h. split l
+      (λ g. let z : course.Arrive ≡ course.Pass = sym (e ∙ (rw (h, g))) ∙ f in absurd (pass-arrive (sym z)))
+      (λ g. (h, g)))
+
 -- a stream that ends: the tables' call says by the unknown pair what the model says by the known one
 removed-terminated : (d : DataPacket) (s : State)
     → terminated d s ≡ (let n = removed (key (d .cid) (d .universe)) (numbers (s .data-pairs) (s .sync-pairs)) in
     record { data-pairs = n .data-table; sync-pairs = n .sync-table; waiting = s .waiting; listened = s .listened; discovered = ended (d .cid) (d .universe) (s .discovered) })
-unfolding terminated removed
+unfolding terminated
 removed-terminated d s =
-    found (pairAt (key (d .cid) (d .universe)) (s .data-pairs .pairs)) (λ e. rw e) (λ x e. rw e)
+    let k = key (d .cid) (d .universe) in
+    let n = numbers (s .data-pairs) (s .sync-pairs) in
+    found (pairAt k (s .data-pairs .pairs))
+    (λ e. rw (e, removed-found k n none e))
+    (λ x e. rw (e, removed-found k n (some x) e))
 
 pub ends-stream : (c : Cid) (u : ℕ) (r : Receiver) (m : Memory) (q : SequenceNumbering) (n : numbered.Lent) (d : Discovery) (pages : Rows) (universes : List ℕ)
     → numbered.numbersOf q n ≡ removed (key c u) (numbered.numbersOf (r .sequences) (numbersIn m)) → numbered.Kept q n
-    → Holds d (m .sources) (m .names) pages universes (ended c u (stateOf r m .discovered))
+    → Holds (m .universes) d (m .sources) (m .names) pages universes (ended c u (stateOf r m .discovered))
     → Ends c u r m (record { sequences = q; waiting = r .waiting; listened = r .listened; discovery = d }) (with-numbers n (with-found (m .sources) (m .names) pages universes m))
 ends-stream c u r m q n d pages universes e k h = record {
   state-is = λ x f g.
@@ -312,6 +411,7 @@ ends-stream c u r m q n d pages universes e k h = record {
       record { data-pairs = z .data-table; sync-pairs = z .sync-table; waiting = stateOf r m .waiting; listened = stateOf r m .listened; discovered = ended (f i) (g i) (stateOf r m .discovered) }))
       ∙ (λ i. record { data-pairs = sym e i .data-table; sync-pairs = sym e i .sync-table; waiting = stateOf r m .waiting; listened = stateOf r m .listened; discovered = sym (h .seen) i });
   kept = λ x. record { kept-sequences = k; kept-waiting = x .kept-waiting; kept-listened = x .kept-listened; kept-discovery = λ l. h .kept };
+  lent-pages = h .lent;
 }
 
 module _ (S : Settings) (now : ℕ) (d : DataPacket) (s : State) where
@@ -346,13 +446,13 @@ module _ (S : Settings) (now : ℕ) (d : DataPacket) (r : Receiver) (m : Memory)
       → Ends (d .cid) (d .universe) r m r′ (with-numbers n (with-found (m .sources) (m .names) pages universes m))
       → cond (S .«announce_stream_termination») (says.UniverseTerminated (d .cid) (d .universe)) says.Nothing ≡ a
       → Takes S now (data-packet d) r m out r′ (with-numbers n (with-found (m .sources) (m .names) pages universes m)) out a
-  unfolding records
   takes-ended r′ n pages universes a e f t g = record {
     released = [];
     outcome-is = data-ended S now d (stateOf r m) e f ∙ (λ i. outcome (t .state-is d refl refl i) (g i));
-    written = refl;
+    written = sym (over-none out);
     kept = t .kept;
     lent-waiting = lent-none (m .rows) (m .store);
+    lent-pages = t .lent-pages;
   }
 
   pub takes-data : (t : DataTable) (dp ds : Rows) (w : Waiting) (l : Listened) (rows : Rows) (store heard out′ : List ℕ) (a : StepAnswer)
@@ -372,20 +472,21 @@ module _ (S : Settings) (now : ℕ) (d : DataPacket) (r : Receiver) (m : Memory)
       kept-discovery = k .kept-discovery;
     };
     lent-waiting = x .ready .lent-waiting;
+    lent-pages = pool.lent-none (m .universes);
   }
 
 -- ── the step ──
 module _ (S : Settings) (now : ℕ) (p : Packet) (r : Receiver) (m : Memory) (out : List ℕ) (k : Kept r m) (long : Option ℕ) (l : too-long p ≡ long)
     (r₁ : Receiver) (m₁ : Memory) (stopped : Bool) (a₁ : StepAnswer) (o : Opens S now long r m out r₁ m₁ stopped a₁) where
   pub steps-stopped : stopped ≡ true → Steps S now p r m out r₁ m₁ out a₁
-  unfolding records
   steps-stopped e = record {
     released = [];
     outcome-is = o .ends e p l;
-    written = refl;
+    written = sym (over-none out);
     kept = o .kept k;
     all-left = λ n f. o .all-left n (sym (ap (first-of (too-short (spaceIn m out))) l) ∙ f);
     lent-waiting = o .lent-waiting;
+    lent-pages = o .lent-pages;
   }
 
   pub steps-taken : (r₂ : Receiver) (m₂ : Memory) (out₂ : List ℕ) (a₂ : StepAnswer) → stopped ≡ false → Takes S now p r₁ m₁ out r₂ m₂ out₂ a₂ → Steps S now p r m out r₂ m₂ out₂ a₂
@@ -398,4 +499,5 @@ module _ (S : Settings) (now : ℕ) (p : Packet) (r : Receiver) (m : Memory) (ou
         let z = o .fits e in
         missing n f (ap (λ (x : Option ℕ). first-of x (too-long p)) (z .0) ∙ l ∙ z .1);
     lent-waiting = lent-then (o .lent-waiting) (t .lent-waiting);
+    lent-pages = pool.lent-then (o .lent-pages) (t .lent-pages);
   }

@@ -1,16 +1,17 @@
 -- The receiver and its lent memory as the model's state, what calls presuppose and keep, and what each promises.
 -- Assumes nothing.
 use mathlib.Core.Path.{_≡_}
-use mathlib.Core.Bool.{Bool, true, false, not, _||_}
+use mathlib.Core.Bool.{Bool, true, false, cond, not, _||_}
 use mathlib.Core.Option.{Option, none, some}
 use mathlib.Core.List.{List}
 use Prim.Native.Nat.{ℕ, _≤_}
 use lib.Dec.{eqb}
 use lib.ListN.{length}
 use Rattle.rules.specs.declared.Cid.{Cid}
-use Rattle.rules.specs.Answer.{first-of}
+use Rattle.rules.specs.Answer.{Value, first-of}
 use Rattle.settings.specs.declared.Settings.{Settings}
-use Rattle.pairs.specs.View.{Rows}
+use Rattle.pairs.specs.Table.{Key}
+use Rattle.pairs.specs.View.{Rows, answerOf, sweepNumberOf, sweepValuesOf}
 use Rattle.sequences.specs.View as numbered
 use Rattle.merge.specs.Merge.{Dmx}
 use Rattle.waiting.specs.Records.{records, over}
@@ -18,17 +19,24 @@ use Rattle.waiting.specs.Entries.{waitingOf, store-length}
 use Rattle.waiting.specs.Entries as waiting
 use Rattle.listening.specs.View.{listenedOf}
 use Rattle.listening.specs.View as listening
-use Rattle.discovery.specs.Discovery.{Announcement}
+use Rattle.discovery.specs.Discovery.{Announcement, callNumber, callValues}
+use Rattle.discovery.specs.declared.PageCall.{PageCall}
+use Rattle.discovery.specs.declared.PageCall.the-variants as paging
 use Rattle.discovery.specs.View.{discoveredOf}
 use Rattle.discovery.specs.View as discovery
+use Rattle.discovery.specs.Lent as pool
 use Rattle.space.specs.declared.Measured.{Measured}
 use Rattle.space.specs.declared.Measured.the-variants as measured
-use Rattle.space.specs.Space.{spaceOf}
+use Rattle.space.specs.Space.{spaceOf, shortage, excess, measuredNumber, measuredValues}
 use Rattle.model.specs.declared.StepAnswer.{StepAnswer}
+use Rattle.model.specs.declared.StepAnswer.the-variants as says
 use Rattle.model.specs.Packet.{DataPacket, Packet, too-long}
 use Rattle.model.specs.State.{State, fresh}
-use Rattle.model.specs.Step.{Space, outcome, too-short, terminated, packet-step, step}
+use Rattle.model.specs.Answer.{stepNumber, stepValues}
+use Rattle.model.specs.Step.{Space, outcome, too-short, poll, terminated, listed, packet-step, step}
 use Rattle.receiver.specs.declared.Receiver.{Receiver}
+use Rattle.receiver.specs.declared.Course.{Course}
+use Rattle.receiver.specs.declared.Course.the-variants as course
 use Rattle.receiver.specs.declared.DiscoveryPacket.{DiscoveryPacket}
 
 -- ── the view ──
@@ -130,19 +138,50 @@ longOf measured.Fits = none
 longOf (measured.TooLong n) = some n
 longOf (measured.TooShort n) = none
 
+-- what lengths and sweep say, each with its own number and values; and of two, the first that stops
+abbrev pub length-said : Measured → ℕ × List Value
+length-said x = (measuredNumber x, measuredValues x)
+
+abbrev pub sweep-said : Option Key → ℕ × List Value
+sweep-said k = (sweepNumberOf (answerOf k), sweepValuesOf (answerOf k))
+
+abbrev pub first-said : ℕ × List Value → ℕ × List Value → ℕ × List Value
+first-said a b = cond (eqb (a .0) 0) b a
+
+-- "1. Output under 35,072 bytes: 15. A lent part too long: 1 .. 2. Poll", in this order
+abbrev pub opening : Option ℕ → Option ℕ → Option Key → ℕ × List Value
+opening short long k = first-said (length-said (shortage short)) (first-said (length-said (excess long)) (sweep-said k))
+
 -- 1 and 2: a step on any packet of this length ends here, or goes on from here
 pub record Opens (S : Settings) (now : ℕ) (long : Option ℕ) (r : Receiver) (m : Memory) (out : List ℕ) (r′ : Receiver) (m′ : Memory) (stopped : Bool) (answer : StepAnswer) : Type 0 where
   pub ends : stopped ≡ true → (p : Packet) → too-long p ≡ long → step (spaceIn m out) S now p (stateOf r m) ≡ outcome (stateOf r′ m′) answer
   pub goes-on : stopped ≡ false → (p : Packet) → too-long p ≡ long → step (spaceIn m out) S now p (stateOf r m) ≡ packet-step S now p (stateOf r′ m′)
+  pub told : (own : List ℕ) → (stepNumber answer, stepValues own answer) ≡ opening (too-short (spaceIn m out)) long (poll S now (stateOf r m) .1)
   pub fits : stopped ≡ false → (too-short (spaceIn m out) ≡ none) × (long ≡ none)
   pub all-left : (n : ℕ) → first-of (too-short (spaceIn m out)) long ≡ some n → (r′ ≡ r) × (m′ ≡ m)
   pub kept : Kept r m → Kept r′ m′
   pub lent-waiting : waiting.Lent (m .rows) (m .store) (m′ .rows) (m′ .store)
+  pub lent-pages : pool.Lent (m .universes) (m′ .universes)
+
+-- 3: "Terminated .. Not listened: nothing. Data pair table.", in this order
+abbrev pub courseOf : Bool → Bool → Course
+courseOf terminated listening = cond terminated course.End (cond listening course.Arrive course.Pass)
 
 -- a stream that ends: both tables and the listed source's pages are the definition's
 pub record Ends (c : Cid) (u : ℕ) (r : Receiver) (m : Memory) (r′ : Receiver) (m′ : Memory) : Type 0 where
   pub state-is : (d : DataPacket) → d .cid ≡ c → d .universe ≡ u → terminated d (stateOf r m) ≡ stateOf r′ m′
   pub kept : Kept r m → Kept r′ m′
+  pub lent-pages : pool.Lent (m .universes) (m′ .universes)
+
+-- 5: what the call for a page answers, as the step's answer
+abbrev pub called : Settings → PageCall → StepAnswer
+called S (paging.Done a) = listed S a
+called S (paging.TooLong n) = says.TooLong n
+
+-- the step's answer has the call's own number and values, but for "9 if listed and announced"
+pub record Tells (call : PageCall) (answer : StepAnswer) : Type 0 where
+  pub number-is : eqb (stepNumber answer) 9 ≡ false → stepNumber answer ≡ callNumber call
+  pub values-are : eqb (stepNumber answer) 9 ≡ false → (own : List ℕ) → stepValues own answer ≡ callValues call
 
 -- 3 to 5: what a packet does after the poll
 pub record Takes (S : Settings) (now : ℕ) (p : Packet) (r : Receiver) (m : Memory) (out : List ℕ) (r′ : Receiver) (m′ : Memory) (out′ : List ℕ) (answer : StepAnswer) : Type 0 where
@@ -151,6 +190,7 @@ pub record Takes (S : Settings) (now : ℕ) (p : Packet) (r : Receiver) (m : Mem
   pub written : out′ ≡ over (records released) out
   pub kept : Kept r m → Kept r′ m′
   pub lent-waiting : waiting.Lent (m .rows) (m .store) (m′ .rows) (m′ .store)
+  pub lent-pages : pool.Lent (m .universes) (m′ .universes)
 
 -- ── the step ──
 -- answer, state and output are the definition's; the next call may follow; 15 and 1 leave all, header and lent bytes
@@ -161,6 +201,7 @@ pub record Steps (S : Settings) (now : ℕ) (p : Packet) (r : Receiver) (m : Mem
   pub kept : Kept r′ m′
   pub all-left : (n : ℕ) → first-of (too-short (spaceIn m out)) (too-long p) ≡ some n → (r′ ≡ r) × (m′ ≡ m)
   pub lent-waiting : waiting.Lent (m .rows) (m .store) (m′ .rows) (m′ .store)
+  pub lent-pages : pool.Lent (m .universes) (m′ .universes)
 
 -- ── the further calls ──
 -- a receiver that knows nothing
@@ -173,12 +214,13 @@ pub record Begins (r : Receiver) (m : Memory) : Type 0 where
 abbrev pub leaves-all : ℕ → Bool
 leaves-all n = not (eqb n 0 || eqb n 4)
 
--- answer and state are the definition's; the next call may follow; a stop that leaves all leaves header and lent bytes; the store past its 64 blocks stays
+-- answer and state are the definition's; the next call may follow; a stop that leaves all leaves header and lent bytes; both stores stay past their 64 blocks and their 64 pages
 pub record Does {A : Type 0} (call : State → State × A) (number : A → ℕ) (r : Receiver) (m : Memory) (r′ : Receiver) (m′ : Memory) (answer : A) : Type 0 where
   pub outcome-is : call (stateOf r m) ≡ (stateOf r′ m′, answer)
   pub kept : Kept r m → Kept r′ m′
   pub all-left : leaves-all (number answer) ≡ true → (r′ ≡ r) × (m′ ≡ m)
   pub lent-waiting : waiting.Lent (m .rows) (m .store) (m′ .rows) (m′ .store)
+  pub lent-pages : pool.Lent (m .universes) (m′ .universes)
 
 -- a call that touches no memory and nothing stops
 pub record Becomes (call : State → State) (r r′ : Receiver) (m : Memory) : Type 0 where

@@ -17,9 +17,10 @@ ghost use Rattle.model.specs.Step.{listed};
 ghost use Rattle.model.specs.Calls.{poll-call, expiry-call, listen-call, mute-call, clear-call, clear-all-call, reset-call};
 ghost use Rattle.space.specs.Space.{bytes};
 ghost use Rattle.steps.specs.View.{packetOf, syncOf};
-ghost use Rattle.receiver.specs.View.{Memory, memory, with-numbers, with-sync-numbers, with-held, with-heard, with-found, stateOf, announcementOf, pool-length, longOf, Kept, Opens, Ends, Takes, Steps, Begins, Does, Becomes};
+ghost use Rattle.receiver.specs.View.{Memory, memory, with-numbers, with-sync-numbers, with-held, with-heard, with-found, stateOf, announcementOf, pool-length, longOf, courseOf, Kept, Opens, Ends, called, Tells, Takes, Steps, Begins, Does, Becomes};
 use discovery::Discovery;
 use discovery::PageAnswer;
+use discovery::PageCall;
 use listening::Listened;
 use model::ClearAnswer;
 use model::ExpiryAnswer;
@@ -115,6 +116,17 @@ fn listed_answer(a: PageAnswer, settings: Settings) -> StepAnswer
     }
 }
 
+// What the call for a page answers, as the step's answer.
+fn called_answer(a: PageCall, settings: Settings) -> StepAnswer
+    ensures answer { λ r. ⌜ r ≡ called settings a ⌝ }
+    ensures told { λ r. ⌜ Tells a r ⌝ }
+{
+    match a {
+        PageCall::Done(p) => listed_answer(p, settings),
+        PageCall::TooLong(n) => StepAnswer::TooLong(n),
+    }
+}
+
 // Preview data that is not wanted.
 fn is_unwanted(preview: bool, settings: Settings) -> bool
     ensures { λ r. ⌜ r ≡ preview && not (settings .«process_preview_data») ⌝ }
@@ -123,6 +135,26 @@ fn is_unwanted(preview: bool, settings: Settings) -> bool
         return false;
     }
     preview
+}
+
+// What is done with a data packet that is wanted.
+enum Course {
+    End,
+    Arrive,
+    Pass,
+}
+
+// A termination is carried out before all else; the sequence is looked at only where the universe is listened to.
+fn course_of(terminated: bool, listening: bool) -> Course
+    ensures { λ r. ⌜ r ≡ courseOf terminated listening ⌝ }
+{
+    if terminated {
+        return Course::End;
+    }
+    if listening {
+        return Course::Arrive;
+    }
+    Course::Pass
 }
 
 impl Receiver {
@@ -284,7 +316,7 @@ impl Receiver {
         );
         let discovery = a.discovery;
         let said = a.answer;
-        let answer = listed_answer(said, settings);
+        let answer = called_answer(said, settings);
         let receiver = Receiver {
             sequences,
             waiting,
@@ -361,69 +393,73 @@ impl Receiver {
                 answer: StepAnswer::Nothing,
             };
         }
-        if packet.terminated {
-            let cid = packet.cid;
-            let receiver = self.end_stream(
-                data_pairs,
-                data_sources,
-                sync_pairs,
-                sync_sources,
-                sources,
-                names,
-                pages,
-                universes,
-                cid,
-                packet.universe,
-            );
-            if settings.announce_stream_termination {
-                return Handled {
-                    receiver: receiver,
-                    answer: StepAnswer::UniverseTerminated(cid, packet.universe),
-                };
-            }
-            return Handled {
-                receiver: receiver,
-                answer: StepAnswer::Nothing,
-            };
-        }
         let q = self.sequences;
         let w = self.waiting;
         let l = self.listened;
         let discovery = self.discovery;
-        if l.is_listening(&*heard, packet.universe) {
-            let d = q.data;
-            let sync = q.sync;
-            let a = arrive_data(
-                d,
-                w,
-                l,
-                data_pairs,
-                data_sources,
-                rows,
-                store,
-                heard,
-                settings,
-                reading,
-                packet,
-                values,
-                out,
-            );
-            let data = a.data;
-            let waiting = a.waiting;
-            let listened = a.listened;
-            let answer = a.answer;
-            let sequences = SequenceNumbering { data, sync };
-            let receiver = Receiver {
-                sequences,
-                waiting,
-                listened,
-                discovery,
-            };
-            return Handled { receiver, answer };
-        }
-        Handled {
-            receiver: self,
-            answer: StepAnswer::Nothing,
+        let listening = l.is_listening(&*heard, packet.universe);
+        let course = course_of(packet.terminated, listening);
+        match course {
+            Course::End => {
+                let cid = packet.cid;
+                let receiver = self.end_stream(
+                    data_pairs,
+                    data_sources,
+                    sync_pairs,
+                    sync_sources,
+                    sources,
+                    names,
+                    pages,
+                    universes,
+                    cid,
+                    packet.universe,
+                );
+                if settings.announce_stream_termination {
+                    return Handled {
+                        receiver: receiver,
+                        answer: StepAnswer::UniverseTerminated(cid, packet.universe),
+                    };
+                }
+                Handled {
+                    receiver: receiver,
+                    answer: StepAnswer::Nothing,
+                }
+            }
+            Course::Arrive => {
+                let d = q.data;
+                let sync = q.sync;
+                let a = arrive_data(
+                    d,
+                    w,
+                    l,
+                    data_pairs,
+                    data_sources,
+                    rows,
+                    store,
+                    heard,
+                    settings,
+                    reading,
+                    packet,
+                    values,
+                    out,
+                );
+                let data = a.data;
+                let waiting = a.waiting;
+                let listened = a.listened;
+                let answer = a.answer;
+                let sequences = SequenceNumbering { data, sync };
+                let receiver = Receiver {
+                    sequences,
+                    waiting,
+                    listened,
+                    discovery,
+                };
+                Handled { receiver, answer }
+            }
+            Course::Pass => Handled {
+                receiver: self,
+                answer: StepAnswer::Nothing,
+            },
         }
     }
 

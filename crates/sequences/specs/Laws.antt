@@ -1,7 +1,7 @@
 -- One law for each return of the calls: what the tables' own calls ensure makes the pair of tables that the definition says.
 -- Assumes nothing.
 use mathlib.Core.Path.{_≡_, refl, sym, ap, _∙_, subst}
-use mathlib.Core.Bool.{Bool, true, false, not}
+use mathlib.Core.Bool.{Bool, true, false, not, cond}
 use mathlib.Core.Option.{Option, none, some}
 use Prim.Native.Nat.{ℕ}
 use native.Mathlib.Omega.{arith}
@@ -73,7 +73,13 @@ module _ (n : SequenceNumbering) (m : Lent) (k : Kept n m) (announce : Bool) (no
   pub unmoved-data : pairs.Unmoved (n .«data» .table) (m .data-pairs) (m .data-sources) now dp ds → Unmoved n m now (lent dp ds (m .sync-pairs) (m .sync-sources))
   unmoved-data u = record { data-same = u; sync-same = record { rows-same = λ s l. (refl, refl) } }
 
--- a removal, by whether the data pair was known
+-- a removal, by what was found of the data pair
+pub removed-found : (j : Key) (x : Numbers) (o : Option Pair) → pairAt j (x .data-table .pairs) ≡ o
+    → removed j x ≡ numbers (without j (x .data-table)) (cond (unknown o) (x .sync-table) (without j (x .sync-table)))
+unfolding removed
+removed-found j x o e = rw e
+
+-- by whether it was known
 known-first : (j : Key) (x : Numbers) → not (unknown (pairAt j (x .data-table .pairs))) ≡ true → removed j x ≡ numbers (without j (x .data-table)) (without j (x .sync-table))
 unfolding removed
 known-first j x e = split (unknown (pairAt j (x .data-table .pairs))) (λ h. let z : false ≡ true = rw h at e in clash z refl) (λ h. rw h)

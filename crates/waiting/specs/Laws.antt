@@ -26,7 +26,7 @@ use Rattle.merge.specs.Laws.{Like, htp-merge-like, joined-like, like-paired, jo
 use Rattle.waiting.specs.declared.StoreAnswer.{StoreAnswer}
 use Rattle.waiting.specs.declared.StoreAnswer.the-variants.{Stored, MergeRefused, WaitingFull}
 use Rattle.waiting.specs.Waiting.{universeOf, addressOf, waitingFor, capacity, merged, joining, stored, cleared, fresh, swept, of-address, released, left, Within, Ordered}
-use Rattle.waiting.specs.Records.{owner, encode, records, most-bytes}
+use Rattle.waiting.specs.Records.{owner, encode, records, over, most-bytes}
 
 -- ── in order and within the counts ──
 pub within-keep : (t : Dmx → Bool) (ds : List Dmx) → Within ds → Within (keep t ds)
@@ -181,6 +181,11 @@ value-count-within (d ∷ ds) w = omega (arith, value-count-within ds (w .1), w 
 -- the output of 35,072 bytes is enough
 pub records-within : (ds : List Dmx) → length ds ≤ capacity → Within ds → length (records ds) ≤ most-bytes
 records-within ds f w = omega (arith, length-records ds, value-count-within ds w)
+
+-- no record leaves the output as it was
+pub over-none : (out : List ℕ) → over (records []) out ≡ out
+unfolding records
+over-none out = refl
 
 pub records-fit : (ds : List Dmx) → Ordered ds → length (records ds) ≤ most-bytes
 records-fit ds o = records-within ds (o .fit) (o .values-fit)

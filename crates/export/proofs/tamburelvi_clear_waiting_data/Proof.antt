@@ -39,7 +39,7 @@ returns c m =
     let v = s .args in
     let h = c .before .before .before .before .before .clear-waiting-data in
     answers (clear-call (length (v .store .now)) (v .universe)) clearNumber clearValues clearedOf tells-clear (v .header) (with-held (v .rows .now) (v .store .now) m) (h .result .receiver) (with-held (h .last .1 .0) (h .last .1 .1 .0) m) (h .result .answer) _ _ _
-    (c .before .before .before .before .before .before .before .before .receiver-of .ensures) (h .ensures .0 m) (c .before .header-of .ensures) (c .cleared .ensures)
+    (c .before .before .before .before .before .before .before .before .receiver-of .ensures) (h .ensures m) (c .before .header-of .ensures) (c .cleared .ensures)
 
 pub tamburelvi-clear-waiting-data-spec : {M : Type 1} → statement M
 tamburelvi-clear-waiting-data-spec =

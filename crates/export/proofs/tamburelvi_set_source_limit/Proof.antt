@@ -1,14 +1,16 @@
 -- The test is the definition's.
 -- Assumes nothing.
+use mathlib.Core.Path.{refl}
+use native.Mathlib.Omega.{arith}
 use borrow.Author.Tests.{eq-eqb, ne-eqb}
 use Rattle.export.proofs.tamburelvi_set_source_limit.Statement.{statement}
 use Rattle.export.proofs.tamburelvi_set_source_limit.Tie as tie
 
 returns : tie.Need-returns
-returns c = (simp (eq-eqb _ 0 (c .if1 .taken)), simp (eq-eqb _ 0 (c .if1 .taken)))
+returns c = ((simp (eq-eqb _ 0 (c .if1 .taken)), simp (eq-eqb _ 0 (c .if1 .taken))), λ z. refl)
 
 returns-2 : tie.Need-returns-2
-returns-2 c = (simp (ne-eqb _ 0 (c .if1 .left)), simp (ne-eqb _ 0 (c .if1 .left)))
+returns-2 c = ((simp (ne-eqb _ 0 (c .if1 .left)), simp (ne-eqb _ 0 (c .if1 .left))), λ z. absurd (omega (arith, z)))
 
 pub tamburelvi-set-source-limit-spec : {M : Type 1} → statement M
 tamburelvi-set-source-limit-spec = tie.close (tie.spec returns returns-2)

@@ -1,18 +1,30 @@
--- The rows of the owner are its pages.
+-- The owner's rows are its pages.
 -- Assumes nothing.
-use mathlib.Core.Path.{sym, _∙_}
-use Rattle.readouts.specs.Reads.{page-number}
+use mathlib.Core.Path.{sym, ap, _∙_}
+use mathlib.Core.List.{List}
+use Prim.Native.Nat.{ℕ}
+use lib.ListN.{length}
+use Rattle.table.specs.Table.{keep}
+use Rattle.discovery.specs.Rows.{owned}
+use Rattle.readouts.specs.Reads.{page-number, take-within}
 use borrow.Author.Needs.{needs}
 use Rattle.readouts.proofs.page_total.Statement.{statement}
 use Rattle.readouts.proofs.page_total.Tie as tie
+
+within-requires : tie.Need-within-requires
+within-requires c κs = search needs
 
 count-pages-requires : tie.Need-count-pages-requires
 count-pages-requires c κs = search needs
 
 returns : tie.Need-returns
 returns c =
-    let v = c .before .args in
-    λ universes. c .count-pages .ensures ∙ sym (page-number (v .mark) (v .cid) (v .discovery) (v .pages .now) universes)
+    let s = c .before .before in
+    let v = s .args in
+    let w = c .before .within in
+    λ universes. c .count-pages .ensures
+    ∙ ap (λ (rs : List (List ℕ)). length (keep (owned (v .mark) (v .cid)) rs)) (take-within (v .discovery .«page_count») (w .result) (v .pages .now) (s .pre) (w .ensures))
+    ∙ sym (page-number (v .mark) (v .cid) (v .discovery) (v .pages .now) universes)
 
 pub page-total-spec : {M : Type 1} → statement M
-page-total-spec = tie.close (tie.spec count-pages-requires returns)
+page-total-spec = tie.close (tie.spec within-requires count-pages-requires returns)

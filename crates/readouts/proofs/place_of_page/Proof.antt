@@ -1,19 +1,31 @@
--- The place of the owner's k-th row is that of its k-th page.
+-- The place of the k-th such row, if there is one, as far as there are rows.
 -- Assumes nothing.
-use Rattle.readouts.specs.Reads.{page-at}
+use Rattle.readouts.specs.Reads.{page-at, page-none}
 use borrow.Author.Needs.{needs}
 use Rattle.readouts.proofs.place_of_page.Statement.{statement}
 use Rattle.readouts.proofs.place_of_page.Tie as tie
+
+within-requires : tie.Need-within-requires
+within-requires c κs = search needs
 
 nth-page-requires : tie.Need-nth-page-requires
 nth-page-requires c κs = search needs
 
 returns : tie.Need-returns
 returns c =
-    let v = c .before .args in
-    let p = c .before .pre in
-    let x = c .nth-page in
-    λ universes. page-at (v .mark) (v .cid) (v .discovery) (v .pages .now) universes (v .k) (p .0) (p .1) (x .result) (x .ensures)
+    let s = c .before .before .before in
+    let v = s .args in
+    let w = c .before .before .within in
+    let x = c .before .nth-page in
+    λ universes. page-none (v .mark) (v .cid) (v .discovery) (v .pages .now) universes (v .k) (w .result) (x .result) (s .pre) (w .ensures) (x .ensures) (c .if1 .taken)
+
+returns-2 : tie.Need-returns-2
+returns-2 c =
+    let s = c .before .before .before in
+    let v = s .args in
+    let w = c .before .before .within in
+    let x = c .before .nth-page in
+    λ universes. page-at (v .mark) (v .cid) (v .discovery) (v .pages .now) universes (v .k) (w .result) (x .result) (s .pre) (w .ensures) (x .ensures) (c .if1 .left)
 
 pub place-of-page-spec : {M : Type 1} → statement M
-place-of-page-spec = tie.close (tie.spec nth-page-requires returns)
+place-of-page-spec = tie.close (tie.spec within-requires nth-page-requires returns returns-2)

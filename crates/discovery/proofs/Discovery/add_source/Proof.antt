@@ -73,7 +73,7 @@ returns c =
     let n = c .before .before .before .before .name-row in
     let w = c .before .before .write-at in
     source-added (v .self) (v .sources .now) (v .names .now) (v .pages .now) (v .universes .now) k (v .mark) (v .reading) a f (s .pre .1) (s .pre .5) (s .pre .2)
-    (n .result) (w .last .0) (n .ensures) (w .ensures .0) (w .ensures .1)
+    (n .result) (w .last .0) (n .ensures) (w .ensures .0) (w .ensures .1) (w .ensures .2)
 
 pub add-source-spec : {M : Type 1} → statement M
 add-source-spec =

@@ -40,7 +40,7 @@ returns-2 c =
     let y = c .before .before .before .before .before .remove-name in
     let z = c .before .before .drop-pages in
     dropped-kept (v .mark) (v .cid) (v .self) (v .sources .now) (v .names .now) (v .pages .now) (v .universes .now) (s .pre .0) (s .pre .1)
-    (x .last .0) (y .last .0) (z .last .0) (z .last .1 .0) (f .result) (z .result .«page_count») (z .result .used) _
+    (x .last .0) (y .last .0) (z .last .0) (z .last .1 .0) (f .result) (z .result .«page_count») (z .result .used)
     (f .ensures) (c .before .before .before .before .before .before .before .before .before .if1 .left) (x .ensures .0) (y .ensures .0) (x .ensures .1) (y .ensures .1) (z .ensures)
 
 pub drop-source-spec : {M : Type 1} → statement M

@@ -63,7 +63,7 @@ returns c =
     let f : Fitting a = record { short-name = s .pre .2; few-universes = s .pre .3 } in
     let p = c .before .before .before .add-page in
     λ t e. source-extended (v .self) (v .sources .now) (v .names .now) (v .pages .now) (v .universes .now) k (v .reading) a f (v .at) (s .pre .4) (s .pre .5) (s .pre .1)
-    (p .last .0) (p .last .1 .0) (length (v .universes .now)) (p .ensures) t e
+    (p .last .0) (p .last .1 .0) (p .ensures) t e
 
 pub extend-source-spec : {M : Type 1} → statement M
 extend-source-spec =

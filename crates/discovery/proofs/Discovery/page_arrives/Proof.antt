@@ -1,9 +1,7 @@
--- With 64 pages it is refused; otherwise it is taken, as the source has a partial entry or not.
+-- Too long a name or a list is told; any other page is taken.
 -- Assumes nothing.
-use native.Mathlib.Omega.{arith}
 use Rattle.discovery.specs.Discovery.{Announcement}
-use Rattle.discovery.specs.View.{Kept, absent-heads}
-use Rattle.discovery.specs.Arrive.{arrival-full, arrival-taken}
+use Rattle.discovery.specs.Arrive.{called-name, called-list, called-done}
 use borrow.Author.Needs.{needs}
 use Rattle.discovery.proofs.Discovery.page_arrives.Statement.{statement}
 use Rattle.discovery.proofs.Discovery.page_arrives.Tie as tie
@@ -12,57 +10,29 @@ returns : tie.Need-returns
 returns c =
     let s = c .before .before .before .before in
     let v = s .args in
-    let k : Kept (v .self) (v .sources .now) (v .names .now) (v .pages .now) (v .universes .now) = s .pre .0 in
     let a : Announcement = record { cid = v .cid; name = v .name .now; page = v .page; last-page = v .last-page; universes = v .list .now } in
-    arrival-full (v .self) (v .sources .now) (v .names .now) (v .pages .now) (v .universes .now) k (v .reading) a (c .if1 .taken)
+    called-name (v .self) (v .sources .now) (v .names .now) (v .pages .now) (v .universes .now) (s .pre) (v .reading) a (c .if1 .taken)
 
-find-source-requires : tie.Need-find-source-requires
-find-source-requires c κs = search needs
-
-take-first-requires : tie.Need-take-first-requires
-take-first-requires c κs =
-    let s = c .before .before .before .before .before .before .before .before .before .before .before in
+returns-2 : tie.Need-returns-2
+returns-2 c =
+    let s = c .before .before .before .before .before in
     let v = s .args in
-    let k : Kept (v .self) (v .sources .now) (v .names .now) (v .pages .now) (v .universes .now) = s .pre .0 in
     let a : Announcement = record { cid = v .cid; name = v .name .now; page = v .page; last-page = v .last-page; universes = v .list .now } in
-    (k, c .before .before .before .before .before .before .before .if1 .left, s .pre .1, s .pre .2, absent-heads 0 (v .cid) (v .self) (v .sources .now) (v .names .now) (v .pages .now) (v .universes .now) k (omega (arith, c .before .before .before .before .before .find-source .ensures, c .before .before .before .before .if2 .taken)))
+    called-list (v .self) (v .sources .now) (v .names .now) (v .pages .now) (v .universes .now) (s .pre) (v .reading) a (c .before .if1 .left) (c .if2 .taken)
+
+take-page-requires : tie.Need-take-page-requires
+take-page-requires c κs = search needs
 
 same-length : tie.Need-same-length
 same-length c = search needs
 
-returns-2 : tie.Need-returns-2
-returns-2 c =
-    let s = c .before .before .before .before .before .before .before .before .before .before .before .before .before .before in
-    let v = s .args in
-    let k : Kept (v .self) (v .sources .now) (v .names .now) (v .pages .now) (v .universes .now) = s .pre .0 in
-    let a : Announcement = record { cid = v .cid; name = v .name .now; page = v .page; last-page = v .last-page; universes = v .list .now } in
-    let x = c .before .before .take-first in
-    arrival-taken (v .self) (v .sources .now) (v .names .now) (v .pages .now) (v .universes .now) k (v .reading) a (x .result) (x .last .1 .0) (x .last .1 .1 .0) (x .last .1 .1 .1 .0) (x .last .1 .1 .1 .1 .0) (c .before .before .before .before .before .before .before .before .before .before .if1 .left) (x .ensures)
-
-take-next-requires : tie.Need-take-next-requires
-take-next-requires c κs = search needs
-
-same-length-2 : tie.Need-same-length-2
-same-length-2 c = search needs
-
 returns-3 : tie.Need-returns-3
 returns-3 c =
-    let s = c .before .before .before .before .before .before .before .before .before .before .before .before .before .before in
+    let s = c .before .before .before .before .before .before .before .before .before .before .before .before .before in
     let v = s .args in
-    let k : Kept (v .self) (v .sources .now) (v .names .now) (v .pages .now) (v .universes .now) = s .pre .0 in
     let a : Announcement = record { cid = v .cid; name = v .name .now; page = v .page; last-page = v .last-page; universes = v .list .now } in
-    let x = c .before .before .take-next in
-    arrival-taken (v .self) (v .sources .now) (v .names .now) (v .pages .now) (v .universes .now) k (v .reading) a (x .result) (x .last .1 .0) (x .last .1 .1 .0) (x .last .1 .1 .1 .0) (x .last .1 .1 .1 .1 .0) (c .before .before .before .before .before .before .before .before .before .before .if1 .left) (x .ensures)
+    let x = c .before .before .before .take-page in
+    called-done (v .self) (v .sources .now) (v .names .now) (v .pages .now) (v .universes .now) (s .pre) (v .reading) a (x .result) (x .last .1 .0) (x .last .1 .1 .0) (x .last .1 .1 .1 .0) (x .last .1 .1 .1 .1 .0) (c .before .before .before .before .before .before .before .before .before .if1 .left) (c .before .before .before .before .before .before .before .before .if2 .left) (x .ensures)
 
 pub page-arrives-spec : {M : Type 1} → statement M
-page-arrives-spec =
-    tie.close
-    (tie.spec
-    returns
-    find-source-requires
-    take-first-requires
-    same-length
-    returns-2
-    take-next-requires
-    same-length-2
-    returns-3)
+page-arrives-spec = tie.close (tie.spec returns returns-2 take-page-requires same-length returns-3)

@@ -3,10 +3,11 @@
 use mathlib.Core.Path.{_≡_, refl, sym, _∙_}
 use mathlib.Core.Bool.{not}
 use native.Mathlib.Omega.{arith}
-use lib.ListN.{length, take}
+use lib.ListN.{take}
 use Rattle.table.specs.Place.{prefix}
 use Rattle.discovery.specs.Discovery.{swept}
 use Rattle.discovery.specs.View.{Kept, discoveredOf}
+use Rattle.discovery.specs.Lent.{Lent, lent-none, lent-then}
 use Rattle.discovery.specs.Sweep.{old-row, sweep-done, sweep-mark, sweep-there, sweep-turn}
 use borrow.Author.Needs.{needs}
 use Rattle.discovery.proofs.Discovery.remove_expired_sources.Statement.{statement}
@@ -16,7 +17,7 @@ abbrev Inv-loop : tie.InvT-loop
 Inv-loop sources₀ names₀ pages₀ universes₀ time reading d₀ at₀ sources names pages universes d at =
     Kept d sources names pages universes
     × (swept time reading (discoveredOf d sources names pages universes) ≡ swept time reading (discoveredOf d₀ sources₀ names₀ pages₀ universes₀))
-    × (at ≡ prefix (λ row. not (old-row time reading row)) (take (d .«source_count») sources)) × (length universes ≡ length universes₀)
+    × (at ≡ prefix (λ row. not (old-row time reading row)) (take (d .«source_count») sources)) × Lent universes₀ universes
 
 abbrev μ-loop : tie.MeasureT-loop
 μ-loop sources₀ names₀ pages₀ universes₀ time reading d₀ at₀ sources names pages universes d at = d .«source_count»
@@ -25,7 +26,7 @@ find-expired-requires : tie.Need-find-expired-requires Inv-loop μ-loop
 find-expired-requires c κs = (c .before .before .pre .within, c .before .before .pre .source-rows)
 
 loop-holds : tie.Need-loop-holds Inv-loop μ-loop
-loop-holds c = (c .before .before .before .pre, refl, c .find-expired .ensures, refl)
+loop-holds c = (c .before .before .before .pre, refl, c .find-expired .ensures, lent-none (c .before .before .before .args .universes .now))
 
 mul-row : tie.Need-mul-row Inv-loop μ-loop
 mul-row c = search needs
@@ -71,11 +72,11 @@ loop-again c =
       x .ensures .kept,
       sweep-turn (v .time) (v .reading) (w .d) (w .sources) (w .names) (w .pages) (w .universes) (w .inv .0) (w .at) (w .inv .2) (c .before .before .before .before .before .before .before .before .before .before .if1 .taken) (x .result) (x .last .1 .0) (x .last .1 .1 .0) (x .last .1 .1 .1 .0) (x .last .1 .1 .1 .1 .0) (x .ensures) ∙ w .inv .1,
       c .find-expired2 .ensures,
-      search needs,
+      lent-then (w .inv .3) (x .ensures .lent),
     )
 
 same-length : tie.Need-same-length Inv-loop μ-loop
-same-length c = c .before .before .loop .inv .3
+same-length c = c .before .before .loop .inv .3 .pool-same
 
 returns : tie.Need-returns Inv-loop μ-loop
 returns c =
@@ -83,7 +84,7 @@ returns c =
     let s = c .before .before .before .before .before .before in
     let v = s .args in
     let k = w .inv .0 in
-    record { kept = k; seen = sym (sweep-done (v .time) (v .reading) (w .d) (w .sources) (w .names) (w .pages) (w .universes) k (omega (arith, w .inv .2, c .if1 .left))) ∙ w .inv .1 }
+    record { kept = k; seen = sym (sweep-done (v .time) (v .reading) (w .d) (w .sources) (w .names) (w .pages) (w .universes) k (omega (arith, w .inv .2, c .if1 .left))) ∙ w .inv .1; lent = w .inv .3 }
 
 pub remove-expired-sources-spec : {M : Type 1} → statement M
 remove-expired-sources-spec =

@@ -9,6 +9,7 @@ use borrow.Author.Tests.{eq-eqb, ne-eqb}
 use Rattle.discovery.specs.Discovery.{Announcement, begun}
 use Rattle.discovery.specs.Moves.{with-source}
 use Rattle.discovery.specs.View.{Kept}
+use Rattle.discovery.specs.Lent.{lent-then}
 use Rattle.discovery.specs.Arrive.{dropped-fewer, took-first, took-begun}
 use borrow.Author.Needs.{needs}
 use Rattle.discovery.proofs.Discovery.take_first.Statement.{statement}
@@ -40,7 +41,7 @@ returns c =
     let x = c .before .before .add-source in
     let f : (eqb (v .page) 0 && eqb (v .last-page) 0) ≡ true = rw (eq-eqb (v .page) 0 (c .before .before .before .before .before .before .before .before .before .before .before .before .before .before .before .if1 .taken), eq-eqb (v .last-page) 0 (c .before .before .before .before .before .before .before .before .before .before .before .before .before .before .if2 .taken)) in
     took-first (v .self) (v .sources .now) (v .names .now) (v .pages .now) (v .universes .now) (v .reading) a (s .pre .4) (x .result) (x .last .1 .0) (x .last .1 .1 .0) (x .last .1 .1 .1 .0) (x .last .1 .1 .1 .1 .0) f
-    (record { kept = x .ensures .kept; seen = x .ensures .seen ∙ ap (with-source 1 (begun (v .reading) a)) (g .ensures .view) })
+    (record { kept = x .ensures .kept; seen = x .ensures .seen ∙ ap (with-source 1 (begun (v .reading) a)) (g .ensures .view); lent = lent-then (g .ensures .lent) (x .ensures .lent) })
 
 add-source-requires-2 : tie.Need-add-source-requires-2
 add-source-requires-2 c κs = search needs

@@ -1,6 +1,5 @@
 -- The pages are cut; the sources stay.
 -- Assumes nothing.
-use lib.ListN.{length}
 use Rattle.discovery.specs.Sweep.{universe-ended}
 use borrow.Author.Needs.{needs}
 use Rattle.discovery.proofs.Discovery.terminate_universe.Statement.{statement}
@@ -17,7 +16,7 @@ returns c =
     let s = c .before .before .before .before .before .before in
     let v = s .args in
     let x = c .before .before .cut-pages in
-    universe-ended (v .self) (v .sources .now) (v .names .now) (v .pages .now) (v .universes .now) (s .pre) (v .cid) (v .universe) (x .result) (length (v .universes .now)) (x .last .0) (x .last .1 .0) (x .ensures)
+    universe-ended (v .self) (v .sources .now) (v .names .now) (v .pages .now) (v .universes .now) (s .pre) (v .cid) (v .universe) (x .result) (x .last .0) (x .last .1 .0) (x .ensures)
 
 pub terminate-universe-spec : {M : Type 1} → statement M
 terminate-universe-spec = tie.close (tie.spec cut-pages-requires same-length returns)

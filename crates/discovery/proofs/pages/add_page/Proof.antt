@@ -77,7 +77,7 @@ returns c =
     let w = c .before .before .before .before .write-at in
     let i = c .insert-page in
     page-inserted (v .count) (v .used) (v .pages .now) (i .last .0) (v .universes .now) (g .last .0) (w .last .0) (v .cid) (v .number) (v .list .now) (f .result) (o .result)
-    (s .pre .0) (s .pre .1) (s .pre .2) (s .pre .3) (f .ensures) (o .ensures) (i .ensures .0) (i .ensures .1) (g .ensures .0) (w .ensures .0) (g .ensures .1) (g .ensures .2) (w .ensures .1) (w .ensures .2)
+    (s .pre .0) (s .pre .1) (s .pre .2) (s .pre .3) (f .ensures) (o .ensures) (i .ensures .0) (i .ensures .1) (g .ensures .0) (w .ensures .0) (g .ensures .1) (g .ensures .2) (w .ensures .1) (w .ensures .2) (g .ensures .3)
 
 pub add-page-spec : {M : Type 1} → statement M
 add-page-spec =

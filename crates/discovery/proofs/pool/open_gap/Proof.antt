@@ -5,7 +5,7 @@ use mathlib.Core.List.{List, []}
 use Prim.Native.Nat.{ℕ, _≤_, _-_, _+_}
 use native.Mathlib.Omega.{arith}
 use lib.ListN.{length, take, drop, getD, length-set}
-use lib.Seq.{take-set-le}
+use lib.Seq.{take-set-le, drop-set-lt}
 use Rattle.table.specs.Arrays.{spent}
 use Rattle.discovery.specs.Pool.{take-less, moved-up}
 use borrow.Author.Needs.{needs}
@@ -15,7 +15,7 @@ use Rattle.discovery.proofs.pool.open_gap.Tie as tie
 abbrev Inv-loop : tie.InvT-loop
 Inv-loop universes₀ used at n i₀ universes i =
     (at ≤ i) × (i ≤ used) × (length universes ≡ length universes₀) × (take i universes ≡ take i universes₀)
-    × (drop (i + n) (take (used + n) universes) ≡ drop i (take used universes₀))
+    × (drop (i + n) (take (used + n) universes) ≡ drop i (take used universes₀)) × (drop (used + n) universes ≡ drop (used + n) universes₀)
 
 abbrev μ-loop : tie.MeasureT-loop
 μ-loop universes₀ used at n i₀ universes i = i
@@ -27,7 +27,7 @@ gone k l = sym (spent l k k (omega arith))
 loop-holds : tie.Need-loop-holds Inv-loop μ-loop
 loop-holds c =
     let v = c .args in
-    (omega arith, omega arith, refl, refl, sym (gone (v .used + v .n) (v .universes .now)) ∙ gone (v .used) (v .universes .now))
+    (omega arith, omega arith, refl, refl, sym (gone (v .used + v .n) (v .universes .now)) ∙ gone (v .used) (v .universes .now), refl)
 
 sub-i : tie.Need-sub-i Inv-loop μ-loop
 sub-i c = search needs
@@ -63,6 +63,7 @@ loop-again c =
       simp length-set (w .inv .2),
       take-set-le i (w .universes) (i + v .n) x (omega arith) ∙ take-less (w .universes) u (w .i) i (omega arith) (w .inv .3),
       moved-up (w .universes) u (v .used) (v .n) i 0 (omega arith) (omega arith) (omega arith) (rw e at (w .inv .3)) (rw e at (w .inv .4)),
+      drop-set-lt (v .used + v .n) (w .universes) (i + v .n) x (omega arith) ∙ w .inv .5,
     )
 
 same-length : tie.Need-same-length Inv-loop μ-loop
@@ -73,7 +74,7 @@ returns c =
     let w = c .before .loop in
     let v = c .before .before .args in
     let e : w .i ≡ v .at = omega arith in
-    (w .inv .2, rw e at (w .inv .3), rw e at (w .inv .4))
+    (w .inv .2, rw e at (w .inv .3), rw e at (w .inv .4), w .inv .5)
 
 pub open-gap-spec : {M : Type 1} → statement M
 open-gap-spec =

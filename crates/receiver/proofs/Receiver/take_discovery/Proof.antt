@@ -9,8 +9,8 @@ use Rattle.receiver.proofs.Receiver.take_discovery.Tie as tie
 page-arrives-requires : tie.Need-page-arrives-requires
 page-arrives-requires c κs = search needs
 
-listed-answer-requires : tie.Need-listed-answer-requires
-listed-answer-requires c κs = search needs
+called-answer-requires : tie.Need-called-answer-requires
+called-answer-requires c κs = search needs
 
 same-length : tie.Need-same-length
 same-length c = search needs
@@ -18,15 +18,17 @@ same-length c = search needs
 returns : tie.Need-returns
 returns c m out =
     let a = c .before .before .before .before in
-    let v = c .before .before .before .before .before .before .before .before .before .before .before .before .before .before .before .before .args in
+    let s = c .before .before .before .before .before .before .before .before .before .before .before .before .before .before .before .before in
+    let v = s .args in
     takes-discovery (v .settings) (v .reading) (v .packet) (v .name .now) (v .list .now) (v .self) (with-found (v .sources .now) (v .names .now) (v .pages .now) (v .universes .now) m) out
-    (a .page-arrives .result) (a .page-arrives .last .1 .0) (a .page-arrives .last .1 .1 .0) (a .page-arrives .last .1 .1 .1 .0) (a .page-arrives .last .1 .1 .1 .1 .0) (c .listed-answer .result) (a .page-arrives .ensures) (c .listed-answer .ensures)
+    (a .page-arrives .result) (a .page-arrives .last .1 .0) (a .page-arrives .last .1 .1 .0) (a .page-arrives .last .1 .1 .1 .0) (a .page-arrives .last .1 .1 .1 .1 .0) (c .called-answer .result)
+    (s .pre .1) (s .pre .2) (a .page-arrives .ensures) (c .called-answer .ensures .0)
 
 pub take-discovery-spec : {M : Type 1} → statement M
 take-discovery-spec =
     tie.close
     (tie.spec
     page-arrives-requires
-    listed-answer-requires
+    called-answer-requires
     same-length
     returns)
