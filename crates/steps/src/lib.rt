@@ -10,7 +10,8 @@ ghost use Rattle.model.specs.Step.{stopped};
 ghost use Rattle.pairs.specs.Table.{numberOf, valuesOf};
 ghost use Rattle.pairs.specs.View as counted;
 ghost use Rattle.sequences.specs.View as numbered;
-ghost use Rattle.steps.specs.View.{packetOf, dataOf, syncOf, lentOf, rowsOf, Tells, storeSaid, releaseSaid, Releases, Holds, Accepts, Arrives, Synchronises, Polls};
+ghost use Rattle.steps.specs.View.{packetOf, dataOf, syncOf, lentOf, rowsOf, storeSaid, releaseSaid};
+ghost use Rattle.steps.specs.View.{Tells, Releases, Holds, Accepts, Arrives, Synchronises, Polls};
 use listening::Listened;
 use merge::DmxData;
 use merge::SourceCid;
@@ -102,7 +103,9 @@ fn release_packet(
     out: &mut [u8],
 ) -> PacketReleased
     requires { ⌜ held.Kept (waiting .count) (now rows) (now store) × (35072 ≤ length (now out)) × (length (now values) ≤ 513) ⌝ }
-    ensures { λ r. ⌜ Releases reading (packetOf packet (now (values .entry))) (waiting .count) (now (rows .entry)) (now (store .entry)) (now (out .entry)) (r .waiting .count) (now (rows .exit)) (now (store .exit)) (now (out .exit)) (r .bytes) ⌝ }
+    ensures { λ r. ⌜ Releases reading (packetOf packet (now (values .entry)))
+        (waiting .count) (now (rows .entry)) (now (store .entry)) (now (out .entry))
+        (r .waiting .count) (now (rows .exit)) (now (store .exit)) (now (out .exit)) (r .bytes) ⌝ }
 {
     let c = waiting.clear_waiting_data(&mut *rows, &mut *store, packet.universe);
     let w = c.waiting;
@@ -127,7 +130,9 @@ fn hold_packet(
     values: &[u8],
 ) -> Accepted
     requires { ⌜ held.Kept (waiting .count) (now rows) (now store) × hearing.Kept listened (now heard) × (length (now values) ≤ 513) ⌝ }
-    ensures { λ r. ⌜ Holds settings reading (packetOf packet (now (values .entry))) (lentOf (waiting .count) listened (now (rows .entry)) (now (store .entry)) (now (heard .entry))) (lentOf (r .waiting .count) (r .listened) (now (rows .exit)) (now (store .exit)) (now (heard .exit))) (r .answer) ⌝ }
+    ensures { λ r. ⌜ Holds settings reading (packetOf packet (now (values .entry)))
+        (lentOf (waiting .count) listened (now (rows .entry)) (now (store .entry)) (now (heard .entry)))
+        (lentOf (r .waiting .count) (r .listened) (now (rows .exit)) (now (store .exit)) (now (heard .exit))) (r .answer) ⌝ }
 {
     let l = listened.listen_universe(&mut *heard, packet.address);
     let next = l.listened;
@@ -172,8 +177,11 @@ fn accept_data(
     values: &[u8],
     out: &mut [u8],
 ) -> Accepted
-    requires { ⌜ held.Kept (waiting .count) (now rows) (now store) × hearing.Kept listened (now heard) × (35072 ≤ length (now out)) × (length (now values) ≤ 513) ⌝ }
-    ensures { λ r. ⌜ Accepts settings reading (packetOf packet (now (values .entry))) (lentOf (waiting .count) listened (now (rows .entry)) (now (store .entry)) (now (heard .entry))) (now (out .entry)) (lentOf (r .waiting .count) (r .listened) (now (rows .exit)) (now (store .exit)) (now (heard .exit))) (now (out .exit)) (r .answer) ⌝ }
+    requires { ⌜ held.Kept (waiting .count) (now rows) (now store) × hearing.Kept listened (now heard)
+        × (35072 ≤ length (now out)) × (length (now values) ≤ 513) ⌝ }
+    ensures { λ r. ⌜ Accepts settings reading (packetOf packet (now (values .entry)))
+        (lentOf (waiting .count) listened (now (rows .entry)) (now (store .entry)) (now (heard .entry))) (now (out .entry))
+        (lentOf (r .waiting .count) (r .listened) (now (rows .exit)) (now (store .exit)) (now (heard .exit))) (now (out .exit)) (r .answer) ⌝ }
 {
     if packet.address == 0 {
         let p = release_packet(
@@ -271,8 +279,13 @@ pub fn arrive_data(
     values: &[u8],
     out: &mut [u8],
 ) -> DataArrived
-    requires { ⌜ counted.Kept («data» .table) (now pairs) (now sources) × held.Kept (waiting .count) (now rows) (now store) × hearing.Kept listened (now heard) × (35072 ≤ length (now out)) × (length (now values) ≤ 513) ⌝ }
-    ensures { λ r. ⌜ Arrives settings reading (packetOf packet (now (values .entry))) (rowsOf («data» .table) (now (pairs .entry)) (now (sources .entry))) (lentOf (waiting .count) listened (now (rows .entry)) (now (store .entry)) (now (heard .entry))) (now (out .entry)) (rowsOf (r .«data» .table) (now (pairs .exit)) (now (sources .exit))) (lentOf (r .waiting .count) (r .listened) (now (rows .exit)) (now (store .exit)) (now (heard .exit))) (now (out .exit)) (r .answer) ⌝ }
+    requires { ⌜ counted.Kept («data» .table) (now pairs) (now sources) × held.Kept (waiting .count) (now rows) (now store)
+        × hearing.Kept listened (now heard) × (35072 ≤ length (now out)) × (length (now values) ≤ 513) ⌝ }
+    ensures { λ r. ⌜ Arrives settings reading (packetOf packet (now (values .entry)))
+        (rowsOf («data» .table) (now (pairs .entry)) (now (sources .entry)))
+        (lentOf (waiting .count) listened (now (rows .entry)) (now (store .entry)) (now (heard .entry))) (now (out .entry))
+        (rowsOf (r .«data» .table) (now (pairs .exit)) (now (sources .exit)))
+        (lentOf (r .waiting .count) (r .listened) (now (rows .exit)) (now (store .exit)) (now (heard .exit))) (now (out .exit)) (r .answer) ⌝ }
 {
     let limit = settings.source_limit;
     let sequence = packet.sequence;
@@ -333,8 +346,13 @@ pub fn arrive_sync(
     packet: SyncPacket,
     out: &mut [u8],
 ) -> SyncArrived
-    requires { ⌜ counted.Kept (sync .table) (now pairs) (now sources) × held.Kept (waiting .count) (now rows) (now store) × (35072 ≤ length (now out)) ⌝ }
-    ensures { λ r. ⌜ Synchronises settings reading (syncOf packet) (rowsOf (sync .table) (now (pairs .entry)) (now (sources .entry))) (waiting .count) (now (rows .entry)) (now (store .entry)) (now (out .entry)) (rowsOf (r .sync .table) (now (pairs .exit)) (now (sources .exit))) (r .waiting .count) (now (rows .exit)) (now (store .exit)) (now (out .exit)) (r .answer) ⌝ }
+    requires { ⌜ counted.Kept (sync .table) (now pairs) (now sources) × held.Kept (waiting .count) (now rows) (now store)
+        × (35072 ≤ length (now out)) ⌝ }
+    ensures { λ r. ⌜ Synchronises settings reading (syncOf packet)
+        (rowsOf (sync .table) (now (pairs .entry)) (now (sources .entry)))
+        (waiting .count) (now (rows .entry)) (now (store .entry)) (now (out .entry))
+        (rowsOf (r .sync .table) (now (pairs .exit)) (now (sources .exit)))
+        (r .waiting .count) (now (rows .exit)) (now (store .exit)) (now (out .exit)) (r .answer) ⌝ }
 {
     let limit = settings.source_limit;
     let sequence = packet.sequence;
@@ -382,8 +400,13 @@ pub fn poll(
     settings: Settings,
     reading: u64,
 ) -> Polled
-    requires { ⌜ numbered.Kept sequences (numbered.lent (now «data_pairs») (now «data_sources») (now «sync_pairs») (now «sync_sources»)) × held.Kept (waiting .count) (now rows) (now store) ⌝ }
-    ensures { λ r. ⌜ Polls settings reading sequences (numbered.lent (now («data_pairs» .entry)) (now («data_sources» .entry)) (now («sync_pairs» .entry)) (now («sync_sources» .entry))) (waiting .count) (now (rows .entry)) (now (store .entry)) (r .sequences) (numbered.lent (now («data_pairs» .exit)) (now («data_sources» .exit)) (now («sync_pairs» .exit)) (now («sync_sources» .exit))) (r .waiting .count) (now (rows .exit)) (now (store .exit)) (r .answer) ⌝ }
+    requires { ⌜ numbered.Kept sequences (numbered.lent (now «data_pairs») (now «data_sources») (now «sync_pairs») (now «sync_sources»))
+        × held.Kept (waiting .count) (now rows) (now store) ⌝ }
+    ensures { λ r. ⌜ Polls settings reading
+        sequences (numbered.lent (now («data_pairs» .entry)) (now («data_sources» .entry)) (now («sync_pairs» .entry)) (now («sync_sources» .entry)))
+        (waiting .count) (now (rows .entry)) (now (store .entry))
+        (r .sequences) (numbered.lent (now («data_pairs» .exit)) (now («data_sources» .exit)) (now («sync_pairs» .exit)) (now («sync_sources» .exit)))
+        (r .waiting .count) (now (rows .exit)) (now (store .exit)) (r .answer) ⌝ }
 {
     let t = sequences.check_timeouts(
         data_pairs,
