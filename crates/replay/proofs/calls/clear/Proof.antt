@@ -20,7 +20,7 @@ same-length-2 : tie.Need-same-length-2
 same-length-2 c = search needs
 
 returns : tie.Need-returns
-returns c = λ m. carries-call clearValues (c .before .before .before .before .before .before .before .clear-waiting-data .ensures .0 m) refl (c .before .before .put-clear .ensures)
+returns c = λ m. carries-call clearValues (c .before .before .before .before .before .before .before .clear-waiting-data .ensures m) refl (c .before .before .put-clear .ensures)
 
 pub clear-spec : {M : Type 1} → statement M
 clear-spec =

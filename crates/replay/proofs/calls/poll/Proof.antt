@@ -20,7 +20,7 @@ same-length-2 : tie.Need-same-length-2
 same-length-2 c = search needs
 
 returns : tie.Need-returns
-returns c = λ m. carries-call pollValues (c .before .before .before .before .before .before .before .poll .ensures .0 m) refl (c .before .before .put-poll .ensures)
+returns c = λ m. carries-call pollValues (c .before .before .before .before .before .before .before .poll .ensures m) refl (c .before .before .put-poll .ensures)
 
 pub poll-spec : {M : Type 1} → statement M
 poll-spec = tie.close (tie.spec poll-requires put-poll-requires same-length same-length-2 returns)
