@@ -23,7 +23,7 @@ use Rattle.discovery.specs.Store.{Head, Leaf, heads-of, pages-at, source
 use Rattle.discovery.specs.Leaves.{behind, turned}
 use Rattle.discovery.specs.Moves.{with-source, leafOf, view-with, sound-with, others, listed-head, view-turned, sound-turned, heads-turned, grown, view-extended, sound-extended}
 use Rattle.discovery.specs.Pool.{pushed, dropped-past}
-use Rattle.discovery.specs.Lent.{lent-none}
+use Rattle.discovery.specs.Lent.{pool-length, lent-none}
 use Rattle.discovery.specs.Rows.{cidAt, owned, headOf, leafAt, leafWith, heads, leaves, total, amount, Few, Packs, turned-row, page-pushed, total-pushed, few-pushed}
 use Rattle.discovery.specs.Steps.{pool-room, pool-small}
 use Rattle.discovery.specs.View.{headsOf, leavesOf, discoveredOf, Kept, Holds, Dropped, heads-append, length-leavesOf, kept-fewer, absent-heads, heads-prefix, heads-removeAt, heads-set, heads-getD, kept-held, single-sound, length-heads}
@@ -105,7 +105,7 @@ module _ (d : Discovery) (S N P : List (List ℕ)) (U : List ℕ) (k : Kept d S 
             ∙ view-with new-head (pageOf a) hs ls (k .sound .housed) absent;
         lent = record {
           pool-same = len;
-          beyond = dropped-past (d .used + length (a .universes)) 32768 U′ U (omega (arith, k .filled, pool-small i P U (length (a .universes)) (k .packing) room (f .few-universes))) rest;
+          beyond = dropped-past (d .used + length (a .universes)) pool-length U′ U (omega (arith, k .filled, pool-small i P U (length (a .universes)) (k .packing) room (f .few-universes))) rest;
         };
       }
 

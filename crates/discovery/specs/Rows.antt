@@ -21,7 +21,7 @@ use Rattle.discovery.specs.Discovery.{cut-page}
 use Rattle.discovery.specs.Store.{Head, Leaf, owner, held-by}
 use Rattle.discovery.specs.Leaves.{cut-leaf}
 use Rattle.discovery.specs.Pool.{further, further-read, read-first, keep-more, dropped-both, dropped-past}
-use Rattle.discovery.specs.Lent.{Lent}
+use Rattle.discovery.specs.Lent.{pool-length, Lent}
 
 abbrev pub cidAt : List ℕ → Cid
 cidAt r = record { hi = getD r 1 0; lo = getD r 2 0 }
@@ -319,11 +319,11 @@ module _ (count : ℕ) (A₀ : List (List ℕ)) (B₀ : List ℕ) (g : Packing c
       let c : count ≤ 64 = g .within in
       let q : length B ≡ length B₀ = p .pool in
       let b : 32768 ≤ length B₀ = g .pool in
-      let h : from ≤ 32768 = omega (arith, p .from-total, total-few (take i A₀) (few-less i count A₀ y (g .few)), length-take i A₀, g .rows) in
+      let h : from ≤ pool-length = omega (arith, p .from-total, total-few (take i A₀) (few-less i count A₀ y (g .few)), length-take i A₀, g .rows) in
       record {
         packing = record { rows = p .rows; within = omega arith; few = p .few; pool = omega arith };
         filled = p .to-total;
-        lent = record { pool-same = q; beyond = dropped-past from 32768 B B₀ h (p .rest-pool) };
+        lent = record { pool-same = q; beyond = dropped-past from pool-length B B₀ h (p .rest-pool) };
         leaves-are = p .image-is;
       }
 

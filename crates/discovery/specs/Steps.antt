@@ -12,6 +12,7 @@ use Rattle.rules.specs.declared.Cid.{Cid}
 use Rattle.discovery.specs.Store.{Leaf}
 use Rattle.discovery.specs.Leaves.{behind}
 use Rattle.discovery.specs.Pool.{dropped-past}
+use Rattle.discovery.specs.Lent.{pool-length}
 use Rattle.discovery.specs.Rows.{leafAt, leafWith, leaves, total, amount, Few, Packing, Packs, larger, leaves-agree, leaves-append, taken-dropped, total-append, total-few}
 
 -- ── one page more for a partial source ──
@@ -121,7 +122,7 @@ module _ (count used : ℕ) (P P′ : List (List ℕ)) (U U₁ U₂ : List ℕ) 
   page-inserted =
       let w : count ≤ 64 = g .within in
       let b : 32768 ≤ length U = g .pool in
-      let small : used + length l ≤ 32768 = omega (arith, filled, pool-small count P U (length l) g room short) in
+      let small : used + length l ≤ pool-length = omega (arith, filled, pool-small count P U (length l) g room short) in
       let ls = leaves (take count P) U in
       let new : Leaf = record { mark = 0; cid = c; page = record { number = n; universes = l } } in
       let q : at ≡ prefix (behind 0 c n) ls = place ∙ sym (leaves-prefix c n (take count P) U) in
@@ -144,7 +145,7 @@ module _ (count used : ℕ) (P P′ : List (List ℕ)) (U U₁ U₂ : List ℕ) 
         filled = omega (arith, ap total rows, total-insert at row rs, filled);
         lent = record {
           pool-same = len₂ ∙ len₁;
-          beyond = dropped-past (begin + length l) 32768 U₂ U₁ (omega (arith, small, inside)) rest ∙ dropped-past (used + length l) 32768 U₁ U (omega (arith, small)) past;
+          beyond = dropped-past (begin + length l) pool-length U₂ U₁ (omega (arith, small, inside)) rest ∙ dropped-past (used + length l) pool-length U₁ U (omega (arith, small)) past;
         };
         leaves-are = ap (λ (k : List (List ℕ)). leaves k U₂) rows ∙ x ∙ z ∙ ap (λ (k : ℕ). insertAt k new ls) q;
       }
