@@ -293,10 +293,11 @@ tamburelvi_dmx_read tamburelvi_waiting(tamburelvi_header header, const uint64_t 
 tamburelvi_part_read tamburelvi_waiting_values(tamburelvi_header header, const uint64_t (*rows)[64][9], size_t at);
 
 /* The source at a place of the partial sources (mark 0) or of the listed ones (mark 1). Where there are not so many, its place is header.sources, and the
- * rest says nothing. */
+ * rest is zeros. */
 tamburelvi_source_read tamburelvi_source_at(tamburelvi_header header, const uint64_t (*sources)[64][6], uint64_t mark, size_t at);
 
-/* The page at a place among the pages of this source of this mark. Where there are not so many, its place is header.pages. */
+/* The page at a place among the pages of this source of this mark. Where there are not so many, its place is header.pages, and the
+ * rest is zeros. */
 tamburelvi_page_read tamburelvi_page_at(tamburelvi_header header, const uint64_t (*pages)[64][5], uint64_t mark, uint64_t hi, uint64_t lo, size_t at);
 
 /* ---- a receiver with its memory ---- */
