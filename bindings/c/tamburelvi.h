@@ -14,7 +14,8 @@
  * A null or wrong pointer, or a length that is longer than the memory, is the caller's fault and is not found out. A length that is too short gives the
  * answer 15 and leaves everything as it was.
  *
- * The struct tamburelvi at the end holds header and memory, and the inline functions over it keep 1, 2 and 4.
+ * The struct tamburelvi at the end holds header and memory, and the inline functions over it keep 1, 2 and 4 for them. Values, names, lists and output
+ * stay the caller's. A header that was not started, or memory that was changed in between, is not found out.
  */
 #ifndef TAMBURELVI_H
 #define TAMBURELVI_H
