@@ -118,7 +118,7 @@ enum {
  *    8  merge refused                          none
  *    9  announced discovery                    the name of the packet
  *   10  1,024 pairs held                       none
- *   11  1,024 universes listened to            none
+ *   11  over 1,024 would be listened to        none
  *   12  64 universes wait                      none
  *   13  64 pages held                          none
  *   14  a limit of 0                           none
@@ -162,7 +162,7 @@ typedef struct {
     uint64_t lo;
 } tamburelvi_cid_read;
 
-/* Waiting data but for its values. has_cid is false where data of several sources was merged. */
+/* Waiting data but for its values. has_cid is false where two data of equal priority were merged by highest value. */
 typedef struct {
     uint64_t hi;
     uint64_t lo;
