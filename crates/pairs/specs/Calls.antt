@@ -20,20 +20,12 @@ use Rattle.pairs.specs.declared.PairTable.{PairTable}
 use Rattle.pairs.specs.declared.Checked.{Checked}
 use Rattle.pairs.specs.declared.Checked.the-variants.{Accepted, UniverseTimeout, SourcesExceeded, OutOfSequence, PairsFull, SourceWithoutPairs}
 use Rattle.pairs.specs.declared.SweepAnswer.the-variants.{Quiet, TimedOut}
-use Rattle.pairs.specs.Table.{Key, key, keyOf, key-before, itself, Table, capacity, pairAt, has, listed, leave, without, live, swept, noted, told, sweep, reached, stop, recorded, admit, check, Ordered}
-use Rattle.pairs.specs.Laws.{without-unknown, without-known, ordered-without, ordered-swept, noted-none, swept-quiet, admit-stored, admit-stopped, ordered-admit, check-quiet, check-told}
-use Rattle.pairs.specs.View.{Rows, cidOf, pairsOf, sourcesOf, tableOf, older, lonely, lower, last-reading, renewed, Kept, Follows, Unmoved, answered, answerOf, removal, noteOf, pair-stop, PairsKept, Stored, Admitted, accepted}
+use Rattle.pairs.specs.Table.{Key, key, keyOf, key-before, itself, Table, capacity, pairAt, has, listed, leave, without, live, swept, noted, told, sweep, reached, stop, recorded, admit, check, accepted, Ordered}
+use Rattle.pairs.specs.Laws.{accepted-is, without-unknown, without-known, ordered-without, ordered-swept, noted-none, swept-quiet, admit-stored, admit-stopped, ordered-admit, check-quiet, check-told}
+use Rattle.pairs.specs.View.{Rows, cidOf, pairsOf, sourcesOf, tableOf, older, lonely, lower, last-reading, renewed, Kept, Follows, Unmoved, answered, answerOf, removal, noteOf, pair-stop, PairsKept, Stored, Admitted}
 use Rattle.pairs.specs.Rows.{older-lower, lower-fresh}
 use Rattle.pairs.specs.Sweep.{fresh, note-none, note-some}
 use Rattle.pairs.specs.Admit.{older-removed, older-stored, lonely-without, lonely-swept, lonely-recorded, swept-idle, stop-listed, stop-limit, stop-full, stop-unlisted, listed-some, listed-none, recorded-listed, never-accepted}
-
-pub accepted-is : (a : Checked) → accepted a ≡ true → a ≡ Accepted
-accepted-is Accepted e = refl
-accepted-is (UniverseTimeout c u) e = let z : _≡_ {A = ℕ} 0 1 = cc in absurd (omega arith)
-accepted-is (SourcesExceeded n) e = let z : _≡_ {A = ℕ} 0 1 = cc in absurd (omega arith)
-accepted-is (OutOfSequence a l d) e = let z : _≡_ {A = ℕ} 0 1 = cc in absurd (omega arith)
-accepted-is PairsFull e = let z : _≡_ {A = ℕ} 0 1 = cc in absurd (omega arith)
-accepted-is SourceWithoutPairs e = let z : _≡_ {A = ℕ} 0 1 = cc in absurd (omega arith)
 
 -- the number of rows in use is what the header says
 pub used : {E : Type 0} (f : List ℕ → E) (n : ℕ) (rows : Rows) → n ≤ 1024 → length rows ≡ 1024 → length (map f (take n rows)) ≡ n

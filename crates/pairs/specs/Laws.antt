@@ -22,9 +22,18 @@ use Rattle.rules.specs.Sequence.{difference, refused}
 use Rattle.settings.specs.declared.SourceLimit.{SourceLimit}
 use Rattle.pairs.specs.declared.Pair.{Pair}
 use Rattle.pairs.specs.declared.Checked.{Checked}
-use Rattle.pairs.specs.declared.Checked.the-variants.{Accepted, UniverseTimeout, SourcesExceeded, PairsFull, SourceWithoutPairs}
+use Rattle.pairs.specs.declared.Checked.the-variants.{Accepted, UniverseTimeout, SourcesExceeded, OutOfSequence, PairsFull, SourceWithoutPairs}
 use Rattle.pairs.specs.Table.{last-noted, Key, keyOf, key-before, key-order, itself, Table, capacity, empty, pairAt, has, listed, leave, without, live, swept, lowest, noted, told, sweep}
-use Rattle.pairs.specs.Table.{recorded, reached, source-stop, unknown, full, sequence-stop, stop, settle, admit, after-sweep, check, Ordered}
+use Rattle.pairs.specs.Table.{recorded, reached, source-stop, unknown, full, sequence-stop, stop, settle, admit, after-sweep, check, accepted, Ordered}
+
+-- ── only one answer is accepted ──
+pub accepted-is : (a : Checked) → accepted a ≡ true → a ≡ Accepted
+accepted-is Accepted e = refl
+accepted-is (UniverseTimeout c u) e = let z : _≡_ {A = ℕ} 0 1 = cc in absurd (omega arith)
+accepted-is (SourcesExceeded n) e = let z : _≡_ {A = ℕ} 0 1 = cc in absurd (omega arith)
+accepted-is (OutOfSequence a l d) e = let z : _≡_ {A = ℕ} 0 1 = cc in absurd (omega arith)
+accepted-is PairsFull e = let z : _≡_ {A = ℕ} 0 1 = cc in absurd (omega arith)
+accepted-is SourceWithoutPairs e = let z : _≡_ {A = ℕ} 0 1 = cc in absurd (omega arith)
 
 -- ── keys that differ ──
 pub key-apart : (j k : Key) → j .cid ≢ k .cid → j ≢ k

@@ -194,6 +194,15 @@ valuesOf (OutOfSequence a l d) = number a ∷ number l ∷ integer d ∷ []
 valuesOf PairsFull = []
 valuesOf SourceWithoutPairs = []
 
+-- nothing stopped the arrival
+abbrev pub accepted : Checked → Bool
+accepted Accepted = true
+accepted (UniverseTimeout c u) = false
+accepted (SourcesExceeded n) = false
+accepted (OutOfSequence a l d) = false
+accepted PairsFull = false
+accepted SourceWithoutPairs = false
+
 -- ── what may be presupposed: "tables in their order and within their counts" ──
 pub record Ordered (t : Table) : Type 0 where
   pub pairs-ascend : Ascending key-before keyOf (t .pairs)

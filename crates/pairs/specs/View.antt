@@ -202,12 +202,3 @@ pub record KnownPair (t : PairTable) (pairs : Rows) (at : ℕ) (p : Pair) : Type
 pub record NewSource (t : PairTable) (pairs sources : Rows) (p : Pair) : Type 0 where
   pub kept : Kept t pairs sources
   pub missing : find before itself (p .cid) (sourcesOf (t .«source_count») sources) ≡ none
-
--- nothing stopped the arrival
-abbrev pub accepted : Checked → Bool
-accepted Accepted = true
-accepted (UniverseTimeout c u) = false
-accepted (SourcesExceeded n) = false
-accepted (OutOfSequence a l d) = false
-accepted PairsFull = false
-accepted SourceWithoutPairs = false

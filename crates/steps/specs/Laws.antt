@@ -45,6 +45,7 @@ use Rattle.model.specs.Step.{Outcome, outcome, illegal, joined-by, most-listene
 use Rattle.steps.specs.declared.DataPacket.{DataPacket}
 use Rattle.pairs.specs.declared.Checked.{Checked}
 use Rattle.pairs.specs.declared.Checked.the-variants as checked
+use Rattle.pairs.specs.Table as pairs
 use Rattle.pairs.specs.Table.{Table, Key, key, check, sweep, numberOf, valuesOf}
 use Rattle.rules.specs.declared.Cid.{Cid}
 use Rattle.pairs.specs.declared.SweepAnswer.{SweepAnswer}
@@ -208,7 +209,7 @@ module _ (S : Settings) (now : ℕ) (d : model.DataPacket) (m : Lent) (out : Lis
   }
 
 -- ── arrivals ──
-stays : (a : Checked) (go stay : Outcome) → counted.accepted a ≡ false → if-accepted a go stay ≡ stay
+stays : (a : Checked) (go stay : Outcome) → pairs.accepted a ≡ false → if-accepted a go stay ≡ stay
 unfolding if-accepted
 stays checked.Accepted go stay e = clash refl e
 stays (checked.UniverseTimeout c u) go stay e = refl
@@ -217,7 +218,7 @@ stays (checked.OutOfSequence a l d) go stay e = refl
 stays checked.PairsFull go stay e = refl
 stays checked.SourceWithoutPairs go stay e = refl
 
-goes : (a : Checked) (go stay : Outcome) → counted.accepted a ≡ true → if-accepted a go stay ≡ go
+goes : (a : Checked) (go stay : Outcome) → pairs.accepted a ≡ true → if-accepted a go stay ≡ go
 unfolding if-accepted
 goes checked.Accepted go stay e = refl
 goes (checked.UniverseTimeout c u) go stay e = clash e refl
@@ -238,7 +239,7 @@ module _ (S : Settings) (now : ℕ) (d : model.DataPacket) (k k′ : Counted) (a
       let b : check (S .«source_limit») (S .«announce_timeout») (data-pair now d) (s .data-pairs) .1 ≡ a = ap (λ (y : Table × Checked). y .1) x ∙ sym (f .answer-is) in
       λ i. if-accepted (b i) (accepted S now d (with-data (t i) s)) (outcome (with-data (t i) s) (stopped (b i)))
 
-  pub arrives-accepted : (m m′ : Lent) (out out′ : List ℕ) (w : StepAnswer) → counted.accepted a ≡ true → Accepts S now d m out m′ out′ w
+  pub arrives-accepted : (m m′ : Lent) (out out′ : List ℕ) (w : StepAnswer) → pairs.accepted a ≡ true → Accepts S now d m out m′ out′ w
       → Arrives S now d k m out k′ m′ out′ w
   arrives-accepted m m′ out out′ w e c = record {
     released = c .released;
@@ -248,7 +249,7 @@ module _ (S : Settings) (now : ℕ) (d : model.DataPacket) (k k′ : Counted) (a
     ready = c .ready;
   }
 
-  pub arrives-stopped : (m : Lent) (out : List ℕ) → counted.accepted a ≡ false → entries.Kept (m .count) (m .rows) (m .store) → listening.Kept (m .listened) (m .heard)
+  pub arrives-stopped : (m : Lent) (out : List ℕ) → pairs.accepted a ≡ false → entries.Kept (m .count) (m .rows) (m .store) → listening.Kept (m .listened) (m .heard)
       → Arrives S now d k m out k′ m out (stopped a)
   unfolding records
   arrives-stopped m out e kw kl = record {
@@ -293,7 +294,7 @@ module _ (S : Settings) (now : ℕ) (y : model.SyncPacket) (k k′ : Counted) (a
         ∙ release-said (waiting.released now (y .address) (waitingOf n rows store)) (with-waiting (left (y .address) (waitingOf n rows store)) s) c b p q
         ∙ (λ i. record { state = with-waiting (v i) s; answer = releaseSaid (releasing.Released c b); released = waiting.released now (y .address) (waitingOf n rows store) })
 
-    pub synchronises : (n′ : ℕ) (rows′ : Rows) (store′ out′ : List ℕ) (c b : ℕ) → counted.accepted a ≡ true
+    pub synchronises : (n′ : ℕ) (rows′ : Rows) (store′ out′ : List ℕ) (c b : ℕ) → pairs.accepted a ≡ true
         → Yields rows store rows′ store′ n′ (left (y .address) (waitingOf n rows store))
         → Writing (waiting.released now (y .address) (waitingOf n rows store)) out out′ c b
         → Synchronises S now y k n rows store out k′ n′ rows′ store′ out′ (releaseSaid (releasing.Released c b))
@@ -307,7 +308,7 @@ module _ (S : Settings) (now : ℕ) (y : model.SyncPacket) (k k′ : Counted) (a
     }
 
     -- an output with room is written
-    pub synchronises-called : (n′ : ℕ) (rows′ : Rows) (store′ out′ : List ℕ) (r : ReleaseAnswer) → counted.accepted a ≡ true → 35072 ≤ length out
+    pub synchronises-called : (n′ : ℕ) (rows′ : Rows) (store′ out′ : List ℕ) (r : ReleaseAnswer) → pairs.accepted a ≡ true → 35072 ≤ length out
         → ReleaseCalled n rows store now (y .address) out rows′ store′ out′ n′ r
         → Synchronises S now y k n rows store out k′ n′ rows′ store′ out′ (releaseSaid r)
     synchronises-called n′ rows′ store′ out′ r e f c =
@@ -318,7 +319,7 @@ module _ (S : Settings) (now : ℕ) (y : model.SyncPacket) (k k′ : Counted) (a
         (released-leaves n rows store now (y .address) out rows′ store′ out′ n′ f r c)
         (released-writes n rows store now (y .address) out rows′ store′ out′ n′ f r c))
 
-    pub synchronises-stopped : counted.accepted a ≡ false → entries.Kept n rows store → Synchronises S now y k n rows store out k′ n rows store out (stopped a)
+    pub synchronises-stopped : pairs.accepted a ≡ false → entries.Kept n rows store → Synchronises S now y k n rows store out k′ n rows store out (stopped a)
     unfolding records
     synchronises-stopped e kw = record {
       released = [];

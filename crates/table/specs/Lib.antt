@@ -5,3 +5,4 @@ pub mod Place
 pub mod Arrays
 pub mod Parts
 pub mod Gap
+pub mod Lent
