@@ -189,25 +189,20 @@ poll-kept S now s k =
     (λ j e. let q : poll S now s .0 ≡ with-data (r .0) s = unfold poll in cc in subst Kept (sym q) h)
 
 -- ── the packets ──
--- either way of an arrival
+-- either way of a test, and of an arrival
+cond-either {ℓ} : {A : Type 0} (P : A → Type ℓ) (b : Bool) (x y : A) → P x → P y → P (cond b x y)
+cond-either P true x y p q = p
+cond-either P false x y p q = q
+
 if-accepted-either : (P : Outcome → Type 0) (a : Checked) (go stay : Outcome) → P go → P stay → P (if-accepted a go stay)
 unfolding if-accepted
-if-accepted-either P checked.Accepted go stay x y = x
-if-accepted-either P (checked.UniverseTimeout c u) go stay x y = y
-if-accepted-either P (checked.SourcesExceeded n) go stay x y = y
-if-accepted-either P (checked.OutOfSequence a l d) go stay x y = y
-if-accepted-either P checked.PairsFull go stay x y = y
-if-accepted-either P checked.SourceWithoutPairs go stay x y = y
+if-accepted-either P a go stay x y = cond-either P (pairs.accepted a) go stay x y
 
 heard-either : (P : Outcome → Type 0) (a : ListenAnswer) (go : Outcome) (s : State) → P go → ((w : StepAnswer) → P (outcome s w)) → P (heard a go s)
 unfolding heard
 heard-either P listening.Listening go s x y = x
 heard-either P (listening.IllegalUniverse u) go s x y = y _
 heard-either P listening.ListenedFull go s x y = y _
-
-cond-either {ℓ} : {A : Type 0} (P : A → Type ℓ) (b : Bool) (x y : A) → P x → P y → P (cond b x y)
-cond-either P true x y p q = p
-cond-either P false x y p q = q
 
 release-kept : (ds : List Dmx) (s : State) → Kept s → Kept (release ds s .state)
 unfolding release

@@ -143,12 +143,7 @@ stopped checked.SourceWithoutPairs = says.SourceWithoutPairs
 
 -- what goes on where the arrival is accepted
 unfoldable pub if-accepted : Checked → Outcome → Outcome → Outcome
-if-accepted checked.Accepted go stay = go
-if-accepted (checked.UniverseTimeout c u) go stay = stay
-if-accepted (checked.SourcesExceeded n) go stay = stay
-if-accepted (checked.OutOfSequence a l d) go stay = stay
-if-accepted checked.PairsFull go stay = stay
-if-accepted checked.SourceWithoutPairs go stay = stay
+if-accepted a go stay = cond (pairs.accepted a) go stay
 
 -- a release: "answers its record count and byte length"
 unfoldable pub release : List Dmx → State → Outcome

@@ -73,15 +73,6 @@ unfolding release records
 frank-release [] s = record { length-is = refl }
 frank-release (d ∷ ds) s = record { length-is = refl }
 
-frank-accepted : (a : Checked) (go stay : Outcome) → Frank go → Frank stay → Frank (if-accepted a go stay)
-unfolding if-accepted
-frank-accepted checked.Accepted go stay g h = g
-frank-accepted (checked.UniverseTimeout c u) go stay g h = h
-frank-accepted (checked.SourcesExceeded n) go stay g h = h
-frank-accepted (checked.OutOfSequence a l d) go stay g h = h
-frank-accepted checked.PairsFull go stay g h = h
-frank-accepted checked.SourceWithoutPairs go stay g h = h
-
 frank-heard : (a : ListenAnswer) (go : Outcome) (s : State) → Frank go → Frank (heard a go s)
 unfolding heard
 frank-heard listening.Listening go s g = g
@@ -92,6 +83,10 @@ frank-heard listening.ListenedFull go s g = silent s says.ListenedFull refl
 either : (b : Bool) (x y : Outcome) → Frank x → Frank y → Frank (cond b x y)
 either true x y f g = f
 either false x y f g = g
+
+frank-accepted : (a : Checked) (go stay : Outcome) → Frank go → Frank stay → Frank (if-accepted a go stay)
+unfolding if-accepted
+frank-accepted a go stay g h = either (pairs.accepted a) go stay g h
 
 module _ (S : Settings) (now : ℕ) where
   frank-stored : (d : DataPacket) (s : State) → Frank (model.stored S now d s)

@@ -211,21 +211,11 @@ module _ (S : Settings) (now : ℕ) (d : model.DataPacket) (m : Lent) (out : Lis
 -- ── arrivals ──
 stays : (a : Checked) (go stay : Outcome) → pairs.accepted a ≡ false → if-accepted a go stay ≡ stay
 unfolding if-accepted
-stays checked.Accepted go stay e = clash refl e
-stays (checked.UniverseTimeout c u) go stay e = refl
-stays (checked.SourcesExceeded n) go stay e = refl
-stays (checked.OutOfSequence a l d) go stay e = refl
-stays checked.PairsFull go stay e = refl
-stays checked.SourceWithoutPairs go stay e = refl
+stays a go stay e = rw e
 
 goes : (a : Checked) (go stay : Outcome) → pairs.accepted a ≡ true → if-accepted a go stay ≡ go
 unfolding if-accepted
-goes checked.Accepted go stay e = refl
-goes (checked.UniverseTimeout c u) go stay e = clash e refl
-goes (checked.SourcesExceeded n) go stay e = clash e refl
-goes (checked.OutOfSequence a l d) go stay e = clash e refl
-goes checked.PairsFull go stay e = clash e refl
-goes checked.SourceWithoutPairs go stay e = clash e refl
+goes a go stay e = rw e
 
 module _ (S : Settings) (now : ℕ) (d : model.DataPacket) (k k′ : Counted) (a : Checked)
     (f : counted.Follows (k′ .table) (k′ .pairs) (k′ .sources) a (check (S .«source_limit») (S .«announce_timeout») (data-pair now d) (counts k))) where
