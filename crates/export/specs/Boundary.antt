@@ -32,8 +32,9 @@ use Rattle.discovery.specs.Discovery.{Announcement}
 use Rattle.waiting.specs.Records.{bit}
 use Rattle.model.specs.Packet.{DataPacket, SyncPacket, Packet}
 use Rattle.receiver.specs.declared.Receiver.{Receiver}
-use Rattle.receiver.specs.declared.Handled.{Handled}
-use Rattle.receiver.specs.View.{Memory, Steps, Does}
+use Rattle.taking.specs.declared.Handled.{Handled}
+use Rattle.receiver.specs.View.{Memory, Does}
+use Rattle.handlers.specs.View.{Steps}
 use Rattle.export.specs.declared.Header.{Header}
 use Rattle.export.specs.declared.Choices.{Choices}
 use Rattle.export.specs.declared.Data.{Data}

@@ -24,8 +24,9 @@ use Rattle.model.specs.Answer.{stepNumber, stepValues, pollNumber, pollValues, 
 use Rattle.model.specs.State.{State}
 use Rattle.model.specs.Packet.{Packet}
 use Rattle.receiver.specs.declared.Receiver.{Receiver}
-use Rattle.receiver.specs.declared.Handled.{Handled}
-use Rattle.receiver.specs.View.{Memory, Kept, Steps, Does, Begins, Becomes}
+use Rattle.taking.specs.declared.Handled.{Handled}
+use Rattle.receiver.specs.View.{Memory, Kept, Does, Begins, Becomes}
+use Rattle.handlers.specs.View.{Steps}
 use Rattle.export.specs.declared.Header.{Header}
 use Rattle.export.specs.declared.Choices.{Choices}
 use Rattle.export.specs.declared.Answer.{Answer}

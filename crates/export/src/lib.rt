@@ -15,8 +15,9 @@ ghost use Rattle.model.specs.Answer.{pollNumber, pollValues, expiryNumber, expi
 ghost use Rattle.model.specs.State.{listens};
 ghost use Rattle.model.specs.Calls.{poll-call, expiry-call, listen-call, mute-call, clear-call, clear-all-call, reset-call};
 ghost use Rattle.space.specs.Space.{bytes};
-ghost use Rattle.steps.specs.View.{packetOf, syncOf};
-ghost use Rattle.receiver.specs.View.{Memory, memory, with-numbers, with-held, with-heard, with-found, stateOf, announcementOf, pool-length, Kept, Begins, Becomes};
+ghost use Rattle.packets.specs.View.{packetOf, syncOf};
+ghost use Rattle.receiver.specs.View.{Memory, memory, with-sequence-rows, with-waiting-rows, with-listened-rows, with-discovery-rows, stateOf, pool-length, Kept, Begins, Becomes};
+ghost use Rattle.packets.specs.View.{announcementOf};
 ghost use Rattle.export.specs.Boundary.{receiverOf, headerOf, mergeOf, limitOf, settingsOf, packetIn, syncIn, announcedIn, bareOf, oneOf, twoOf, pairOf, sequenceOf, discoveredOf, toldOf, replyOf, polledOf, sweptOf, heardOf, mutedOf, clearedOf, Replies, Answers};
 
 pub mod reads;
@@ -29,11 +30,12 @@ use model::ListenAnswer;
 use model::MuteAnswer;
 use model::PollAnswer;
 use model::StepAnswer;
+use packets::DataPacket;
+use packets::DiscoveryPacket;
+use packets::SyncPacket;
 use pairs::DataTable;
 use pairs::PairTable;
 use pairs::SyncTable;
-use receiver::DiscoveryPacket;
-use receiver::Handled;
 use receiver::Receiver;
 use rules::Cid;
 use rules::DataSequence;
@@ -42,8 +44,7 @@ use sequences::SequenceNumbering;
 use settings::MergeChoice;
 use settings::Settings;
 use settings::SourceLimit;
-use steps::DataPacket;
-use steps::SyncPacket;
+use taking::Handled;
 use waiting::Waiting;
 
 // The counts and notes of every table.
@@ -585,7 +586,7 @@ pub extern "C" fn tamburelvi_poll(
     reading: u64,
 ) -> Reply
     requires { ⌜ numbered.Kept (receiverOf header .sequences) (numbered.lent (now «data_pairs») (now «data_sources») (now «sync_pairs») (now «sync_sources»)) × (store-length ≤ length (now store) → held.Kept (receiverOf header .waiting .count) (now rows) (now store)) ⌝ }
-    ensures { λ r. ⌜ ((m : Memory) → Answers (poll-call (length (now (store .entry))) (settingsOf choices) reading) pollNumber pollValues header (with-numbers (numbered.lent (now («data_pairs» .entry)) (now («data_sources» .entry)) (now («sync_pairs» .entry)) (now («sync_sources» .entry))) (with-held (now (rows .entry)) (now (store .entry)) m)) r (with-numbers (numbered.lent (now («data_pairs» .exit)) (now («data_sources» .exit)) (now («sync_pairs» .exit)) (now («sync_sources» .exit))) (with-held (now (rows .exit)) (now (store .exit)) m))) ⌝ }
+    ensures { λ r. ⌜ ((m : Memory) → Answers (poll-call (length (now (store .entry))) (settingsOf choices) reading) pollNumber pollValues header (with-sequence-rows (numbered.lent (now («data_pairs» .entry)) (now («data_sources» .entry)) (now («sync_pairs» .entry)) (now («sync_sources» .entry))) (with-waiting-rows (now (rows .entry)) (now (store .entry)) m)) r (with-sequence-rows (numbered.lent (now («data_pairs» .exit)) (now («data_sources» .exit)) (now («sync_pairs» .exit)) (now («sync_sources» .exit))) (with-waiting-rows (now (rows .exit)) (now (store .exit)) m))) ⌝ }
 {
     let receiver = receiver_of(header);
     let settings = settings_of(choices);
@@ -617,7 +618,7 @@ pub extern "C" fn tamburelvi_remove_expired_sources(
     reading: u64,
 ) -> Reply
     requires { ⌜ (pool-length ≤ length (now universes) → found.Kept (receiverOf header .discovery) (now sources) (now names) (now pages) (now universes)) ⌝ }
-    ensures { λ r. ⌜ ((m : Memory) → Answers (expiry-call (bytes (now (universes .entry))) reading) expiryNumber expiryValues header (with-found (now (sources .entry)) (now (names .entry)) (now (pages .entry)) (now (universes .entry)) m) r (with-found (now (sources .exit)) (now (names .exit)) (now (pages .exit)) (now (universes .exit)) m)) ⌝ }
+    ensures { λ r. ⌜ ((m : Memory) → Answers (expiry-call (bytes (now (universes .entry))) reading) expiryNumber expiryValues header (with-discovery-rows (now (sources .entry)) (now (names .entry)) (now (pages .entry)) (now (universes .entry)) m) r (with-discovery-rows (now (sources .exit)) (now (names .exit)) (now (pages .exit)) (now (universes .exit)) m)) ⌝ }
 {
     let receiver = receiver_of(header);
     let h = receiver.remove_expired_sources(sources, names, pages, universes, reading);
@@ -636,7 +637,7 @@ pub extern "C" fn tamburelvi_listen_universes(
     list: &[u16],
 ) -> Reply
     requires { ⌜ hearing.Kept (receiverOf header .listened) (now heard) ⌝ }
-    ensures { λ r. ⌜ ((m : Memory) → Answers (listen-call (now (list .entry))) listenNumber listenValues header (with-heard (now (heard .entry)) m) r (with-heard (now (heard .exit)) m)) ⌝ }
+    ensures { λ r. ⌜ ((m : Memory) → Answers (listen-call (now (list .entry))) listenNumber listenValues header (with-listened-rows (now (heard .entry)) m) r (with-listened-rows (now (heard .exit)) m)) ⌝ }
 {
     let receiver = receiver_of(header);
     let h = receiver.listen_universes(heard, list);
@@ -655,7 +656,7 @@ pub extern "C" fn tamburelvi_mute_universe(
     universe: u16,
 ) -> Reply
     requires { ⌜ hearing.Kept (receiverOf header .listened) (now heard) ⌝ }
-    ensures { λ r. ⌜ ((m : Memory) → Answers (mute-call universe) muteNumber muteValues header (with-heard (now (heard .entry)) m) r (with-heard (now (heard .exit)) m)) ⌝ }
+    ensures { λ r. ⌜ ((m : Memory) → Answers (mute-call universe) muteNumber muteValues header (with-listened-rows (now (heard .entry)) m) r (with-listened-rows (now (heard .exit)) m)) ⌝ }
 {
     let receiver = receiver_of(header);
     let h = receiver.mute_universe(heard, universe);
@@ -675,7 +676,7 @@ pub extern "C" fn tamburelvi_clear_waiting_data(
     universe: u16,
 ) -> Reply
     requires { ⌜ (store-length ≤ length (now store) → held.Kept (receiverOf header .waiting .count) (now rows) (now store)) ⌝ }
-    ensures { λ r. ⌜ ((m : Memory) → Answers (clear-call (length (now (store .entry))) universe) clearNumber clearValues header (with-held (now (rows .entry)) (now (store .entry)) m) r (with-held (now (rows .exit)) (now (store .exit)) m)) ⌝ }
+    ensures { λ r. ⌜ ((m : Memory) → Answers (clear-call (length (now (store .entry))) universe) clearNumber clearValues header (with-waiting-rows (now (rows .entry)) (now (store .entry)) m) r (with-waiting-rows (now (rows .exit)) (now (store .exit)) m)) ⌝ }
 {
     let receiver = receiver_of(header);
     let h = receiver.clear_waiting_data(rows, store, universe);
@@ -690,7 +691,7 @@ pub extern "C" fn tamburelvi_clear_waiting_data(
 #[no_mangle]
 pub extern "C" fn tamburelvi_new(heard: &mut [u16; 1024]) -> Header
     requires { ⌜ length (now heard) ≡ 1024 ⌝ }
-    ensures { λ r. ⌜ ((m : Memory) → Begins (receiverOf r) (with-heard (now (heard .exit)) m)) ⌝ }
+    ensures { λ r. ⌜ ((m : Memory) → Begins (receiverOf r) (with-listened-rows (now (heard .exit)) m)) ⌝ }
 {
     let receiver = Receiver::new(heard);
     header_of(receiver)
@@ -703,7 +704,7 @@ pub extern "C" fn tamburelvi_is_listening(
     universe: u16,
 ) -> bool
     requires { ⌜ hearing.Kept (receiverOf header .listened) (now heard) ⌝ }
-    ensures { λ r. ⌜ ((m : Memory) → r ≡ listens universe (stateOf (receiverOf header) (with-heard (now (heard .entry)) m) .listened)) ⌝ }
+    ensures { λ r. ⌜ ((m : Memory) → r ≡ listens universe (stateOf (receiverOf header) (with-listened-rows (now (heard .entry)) m) .listened)) ⌝ }
 {
     let receiver = receiver_of(header);
     receiver.is_listening(heard, universe)

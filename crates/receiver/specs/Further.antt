@@ -18,7 +18,7 @@ use Rattle.pairs.specs.Table.{Key, key}
 use Rattle.pairs.specs.declared.SweepAnswer.{SweepAnswer}
 use Rattle.pairs.specs.declared.SweepAnswer.the-variants.{Quiet, TimedOut}
 use Rattle.sequences.specs.declared.SequenceNumbering.{SequenceNumbering}
-use Rattle.sequences.specs.View as numbered
+use Rattle.sequences.specs.View as sequences
 use Rattle.sequences.specs.Laws.{answer-some, answer-none}
 use Rattle.waiting.specs.declared.Waiting.{Waiting}
 use Rattle.waiting.specs.Waiting.{cleared}
@@ -48,11 +48,11 @@ use Rattle.model.specs.Calls.{polled-by, poll-call, expiry-call, listen-call, m
 use Rattle.steps.specs.View.{Polls}
 use Rattle.steps.specs.Laws.{refused-list}
 use Rattle.receiver.specs.declared.Receiver.{Receiver}
-use Rattle.receiver.specs.View.{Memory, numbersIn, with-numbers, with-held, with-heard, with-found, stateOf, Kept, leaves-all, Begins, Does, Becomes}
-use Rattle.receiver.specs.Laws.{room-for, polled-kept}
+use Rattle.receiver.specs.View.{Memory, sequencesIn, with-sequence-rows, with-waiting-rows, with-listened-rows, with-discovery-rows, stateOf, Kept, leaves-all, Begins, Does, Becomes}
+use Rattle.space.specs.Finds.{room-for}
 
 -- ── a fresh receiver ──
-pub begins : (q : SequenceNumbering) (w : Waiting) (l : Listened) (d : Discovery) (m : Memory) → numbered.Emptied q → Empty (w .count) → Fresh l (m .heard) → Emptied d
+pub begins : (q : SequenceNumbering) (w : Waiting) (l : Listened) (d : Discovery) (m : Memory) → sequences.Emptied q → Empty (w .count) → Fresh l (m .heard) → Emptied d
     → Begins (record { sequences = q; waiting = w; listened = l; discovery = d }) m
 begins q w l d m a b c e = record {
   state-is = λ i. record {
@@ -75,6 +75,17 @@ begins q w l d m a b c e = record {
 }
 
 -- ── the poll ──
+-- a poll leaves what calls presuppose
+pub polled-kept : (S : Settings) (now : ℕ) (r : Receiver) (m : Memory) {q : SequenceNumbering} {n : sequences.Lent} {w : Waiting} {rows : Rows} {store : List ℕ} {a : SweepAnswer}
+    → Polls S now (r .sequences) (sequencesIn m) (r .waiting .count) (m .rows) (m .store) q n (w .count) rows store a → Kept r m
+    → Kept (record { sequences = q; waiting = w; listened = r .listened; discovery = r .discovery }) (with-sequence-rows n (with-waiting-rows rows store m))
+polled-kept S now r m p k = record {
+  kept-sequences = p .kept;
+  kept-waiting = λ h. p .kept-waiting;
+  kept-listened = k .kept-listened;
+  kept-discovery = k .kept-discovery;
+}
+
 module _ (S : Settings) (now : ℕ) (r : Receiver) (m : Memory) where
   poll-short : (n : ℕ) → short waiting-bytes (length (m .store)) ≡ some n → poll-call (length (m .store)) S now (stateOf r m) ≡ (stateOf r m, polling.TooShort n)
   unfolding poll-call
@@ -87,13 +98,13 @@ module _ (S : Settings) (now : ℕ) (r : Receiver) (m : Memory) where
   pub does-poll-short : (n : ℕ) → short waiting-bytes (length (m .store)) ≡ some n → Does (poll-call (length (m .store)) S now) pollNumber r m r m (polling.TooShort n)
   does-poll-short n e = record { outcome-is = poll-short n e; kept = λ k. k; all-left = λ z. (refl, refl); lent-waiting = lent-none (m .rows) (m .store); lent-pages = pool.lent-none (m .universes) }
 
-  module _ (q : SequenceNumbering) (n : numbered.Lent) (w : Waiting) (rows : Rows) (store : List ℕ) (a : SweepAnswer) (z : short waiting-bytes (length (m .store)) ≡ none)
-      (p : Polls S now (r .sequences) (numbersIn m) (r .waiting .count) (m .rows) (m .store) q n (w .count) rows store a) where
+  module _ (q : SequenceNumbering) (n : sequences.Lent) (w : Waiting) (rows : Rows) (store : List ℕ) (a : SweepAnswer) (z : short waiting-bytes (length (m .store)) ≡ none)
+      (p : Polls S now (r .sequences) (sequencesIn m) (r .waiting .count) (m .rows) (m .store) q n (w .count) rows store a) where
     abbrev next : Receiver
     next = record { sequences = q; waiting = w; listened = r .listened; discovery = r .discovery }
 
     abbrev left : Memory
-    left = with-numbers n (with-held rows store m)
+    left = with-sequence-rows n (with-waiting-rows rows store m)
 
     polled : (o : Option Key) → p .timed-out ≡ o → poll-call (length (m .store)) S now (stateOf r m) ≡ polled-by (stateOf next left, o)
     polled o e =
@@ -134,7 +145,7 @@ module _ (now : ℕ) (r : Receiver) (m : Memory) where
   pub does-expiry : (d : Discovery) (sources names pages : Rows) (universes : List ℕ) → short page-bytes (bytes (m .universes)) ≡ none
       → Holds (m .universes) d sources names pages universes (swept data-loss now (stateOf r m .discovered))
       → Does (expiry-call (bytes (m .universes)) now) expiryNumber r m (record { sequences = r .sequences; waiting = r .waiting; listened = r .listened; discovery = d })
-      (with-found sources names pages universes m) expiry.Swept
+      (with-discovery-rows sources names pages universes m) expiry.Swept
   does-expiry d sources names pages universes e h = record {
     outcome-is = expiry-long e ∙ (λ i. (with-discovered (sym (h .seen) i) (stateOf r m), expiry.Swept));
     kept = λ k. record { kept-sequences = k .kept-sequences; kept-waiting = k .kept-waiting; kept-listened = k .kept-listened; kept-discovery = λ z. h .kept };
@@ -171,13 +182,13 @@ muted-refused u l n =
 module _ (r : Receiver) (m : Memory) (k : listening.Kept (r .listened) (m .heard)) where
   -- a refused call: the header as it was, too
   left-all : (l : Listened) (heard : List ℕ) → heard ≡ m .heard → listening.Kept l heard → listenedOf l heard ≡ listenedOf (r .listened) (m .heard)
-      → (_≡_ {A = Receiver} (record { sequences = r .sequences; waiting = r .waiting; listened = l; discovery = r .discovery }) r) × (with-heard heard m ≡ m)
+      → (_≡_ {A = Receiver} (record { sequences = r .sequences; waiting = r .waiting; listened = l; discovery = r .discovery }) r) × (with-listened-rows heard m ≡ m)
   left-all l heard e k′ v =
       let f = same-count (r .listened) l (m .heard) k (rw e at k′) (sym (ap (listenedOf l) e) ∙ v) in
-      ((λ i. record { sequences = r .sequences; waiting = r .waiting; listened = f i; discovery = r .discovery }), (λ i. with-heard (e i) m))
+      ((λ i. record { sequences = r .sequences; waiting = r .waiting; listened = f i; discovery = r .discovery }), (λ i. with-listened-rows (e i) m))
 
   pub does-listen : (us : List ℕ) (a : ListenDone) (heard : List ℕ) → Listens us (r .listened) (m .heard) a heard
-      → Does (listen-call us) listenNumber r m (record { sequences = r .sequences; waiting = r .waiting; listened = a .listened; discovery = r .discovery }) (with-heard heard m) (a .answer)
+      → Does (listen-call us) listenNumber r m (record { sequences = r .sequences; waiting = r .waiting; listened = a .listened; discovery = r .discovery }) (with-listened-rows heard m) (a .answer)
   unfolding listen-call
   does-listen us a heard l = record {
     outcome-is = λ i. (with-listened (sym (l .view) i .0) (stateOf r m), sym (l .view) i .1);
@@ -191,7 +202,7 @@ module _ (r : Receiver) (m : Memory) (k : listening.Kept (r .listened) (m .heard
   }
 
   pub does-mute : (u : ℕ) (a : MuteDone) (heard : List ℕ) → Mutes u (r .listened) (m .heard) a heard
-      → Does (mute-call u) muteNumber r m (record { sequences = r .sequences; waiting = r .waiting; listened = a .listened; discovery = r .discovery }) (with-heard heard m) (a .answer)
+      → Does (mute-call u) muteNumber r m (record { sequences = r .sequences; waiting = r .waiting; listened = a .listened; discovery = r .discovery }) (with-listened-rows heard m) (a .answer)
   unfolding mute-call
   does-mute u a heard l = record {
     outcome-is = λ i. (with-listened (sym (l .view) i .0) (stateOf r m), sym (l .view) i .1);
@@ -220,7 +231,7 @@ module _ (u : ℕ) (r : Receiver) (m : Memory) where
       → Yields (m .rows) (m .store) rows store (w .count) (cleared u (waitingOf (r .waiting .count) (m .rows) (m .store)) .0)
       → b ≡ cleared u (waitingOf (r .waiting .count) (m .rows) (m .store)) .1
       → Does (clear-call (length (m .store)) u) clearNumber r m (record { sequences = r .sequences; waiting = w; listened = r .listened; discovery = r .discovery })
-      (with-held rows store m) (clearing.Cleared b)
+      (with-waiting-rows rows store m) (clearing.Cleared b)
   does-clear w rows store b e y f = record {
     outcome-is = clear-long e ∙ (λ i. (with-waiting (sym (y .view) i) (stateOf r m), clearing.Cleared (sym f i)));
     kept = λ k. record { kept-sequences = k .kept-sequences; kept-waiting = λ h. y .kept; kept-listened = k .kept-listened; kept-discovery = k .kept-discovery };
@@ -243,7 +254,7 @@ clears-all r w m e = record {
 }
 
 -- ── all sources ──
-pub resets : (r : Receiver) (q : SequenceNumbering) (d : Discovery) (m : Memory) → numbered.Emptied q → Emptied d
+pub resets : (r : Receiver) (q : SequenceNumbering) (d : Discovery) (m : Memory) → sequences.Emptied q → Emptied d
     → Becomes reset-call r (record { sequences = q; waiting = r .waiting; listened = r .listened; discovery = d }) m
 unfolding reset-call
 resets r q d m a e = record {

@@ -1,3 +1,3 @@
 pub mod View
-pub mod Laws
+pub mod Lent
 pub mod Further

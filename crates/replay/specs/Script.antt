@@ -9,7 +9,7 @@ use lib.Dec.{ltb, eqb}
 use lib.ListN.{length, take, drop}
 use Rattle.rules.specs.declared.Cid.{Cid}
 use Rattle.settings.specs.declared.MergeChoice.the-variants.{DiscardLowestPriorityThenPrevious, HtpDmxMerge}
-use Rattle.steps.specs.declared.DataPacket.{DataPacket}
+use Rattle.packets.specs.declared.DataPacket.{DataPacket}
 use Rattle.replay.specs.declared.fields.Number.{Number}
 use Rattle.replay.specs.declared.fields.Number.the-variants as number
 use Rattle.replay.specs.declared.fields.Small.{Small}

@@ -13,8 +13,8 @@ use Rattle.replay.specs.declared.fields.Count.{Count}
 use Rattle.replay.specs.declared.fields.Count.the-variants as count
 use Rattle.replay.specs.Fields.{ending, Ends, Decoded}
 use Rattle.replay.specs.FieldLaws.{rest-of}
-use Rattle.steps.specs.declared.DataPacket.{DataPacket}
-use Rattle.receiver.specs.declared.DiscoveryPacket.{DiscoveryPacket}
+use Rattle.packets.specs.declared.DataPacket.{DataPacket}
+use Rattle.packets.specs.declared.DiscoveryPacket.{DiscoveryPacket}
 use Rattle.replay.specs.declared.parse.Word.{Word}
 use Rattle.replay.specs.declared.parse.Command.{Command}
 use Rattle.replay.specs.declared.parse.Command.the-variants as says

@@ -11,7 +11,7 @@ use Rattle.settings.specs.Settings as setting
 use Rattle.waiting.specs.Records.{records, over}
 use Rattle.waiting.specs.Entries.{store-length}
 use Rattle.space.specs.Space.{bytes}
-use Rattle.steps.specs.View.{packetOf, syncOf}
+use Rattle.packets.specs.View.{packetOf, syncOf}
 use Rattle.model.specs.Packet.{Packet, data-packet, sync-packet, discovery-packet}
 use Rattle.model.specs.State.{State, listens}
 use Rattle.model.specs.State as model
@@ -19,7 +19,8 @@ use Rattle.model.specs.Step.{Space, step}
 use Rattle.model.specs.Calls.{poll-call, expiry-call, listen-call, mute-call, clear-call, clear-all-call, reset-call}
 use Rattle.model.specs.Answer.{pollNumber, pollValues, expiryNumber, expiryValues, listenNumber, listenValues, muteNumber, muteValues, clearNumber, clearValues}
 use Rattle.receiver.specs.declared.Receiver.{Receiver}
-use Rattle.receiver.specs.View.{Memory, stateOf, spaceIn, announcementOf, pool-length, Kept}
+use Rattle.receiver.specs.View.{Memory, stateOf, spaceIn, pool-length, Kept}
+use Rattle.packets.specs.View.{announcementOf}
 use Rattle.replay.specs.declared.parse.Command.{Command}
 use Rattle.replay.specs.declared.parse.Command.the-variants as says
 use Rattle.replay.specs.declared.parse.Setting.{Setting}

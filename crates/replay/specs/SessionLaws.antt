@@ -14,7 +14,8 @@ use Rattle.model.specs.State as model
 use Rattle.model.specs.Step.{step}
 use Rattle.model.specs.Step as rules
 use Rattle.receiver.specs.declared.Receiver.{Receiver}
-use Rattle.receiver.specs.View.{Memory, with-heard, stateOf, spaceIn, Sized, Kept, Steps, Begins, Does, Becomes}
+use Rattle.receiver.specs.View.{Memory, with-listened-rows, stateOf, spaceIn, Sized, Kept, Begins, Does, Becomes}
+use Rattle.handlers.specs.View.{Steps}
 use Rattle.replay.specs.declared.calls.Session.{Session}
 use Rattle.replay.specs.Text.{Tells}
 use Rattle.replay.specs.TextLaws.{tells-as}
@@ -89,7 +90,7 @@ module _ {s s′ : Session} {m m′ : Memory} {out out′ : List ℕ} where
       }
 
 -- the listened universes have no part in the lengths
-pub sized-heard : {m : Memory} (heard : List ℕ) → Sized m → Sized (with-heard heard m)
+pub sized-heard : {m : Memory} (heard : List ℕ) → Sized m → Sized (with-listened-rows heard m)
 sized-heard heard z = record {
   data-pairs-room = z .data-pairs-room;
   data-sources-room = z .data-sources-room;

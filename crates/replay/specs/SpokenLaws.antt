@@ -10,12 +10,13 @@ use lib.ListN.{length, take}
 use lib.Seq.{take-length}
 use Rattle.table.specs.Cases.{split}
 use Rattle.settings.specs.declared.Settings.{Settings}
-use Rattle.steps.specs.View.{packetOf}
+use Rattle.packets.specs.View.{packetOf}
 use Rattle.model.specs.Packet.{data-packet, discovery-packet}
 use Rattle.model.specs.State.{State}
 use Rattle.model.specs.Calls.{listen-call}
 use Rattle.model.specs.Answer.{listenNumber, listenValues}
-use Rattle.receiver.specs.View.{Memory, spaceIn, announcementOf}
+use Rattle.receiver.specs.View.{Memory, spaceIn}
+use Rattle.packets.specs.View.{announcementOf}
 use Rattle.replay.specs.declared.fields.Number.{Number}
 use Rattle.replay.specs.declared.fields.Number.the-variants as number
 use Rattle.replay.specs.declared.fields.Small.{Small}

@@ -9,11 +9,12 @@ ghost use Rattle.listening.specs.View as hearing;
 ghost use Rattle.sequences.specs.View as numbered;
 ghost use Rattle.discovery.specs.View as found;
 ghost use Rattle.space.specs.Space.{bytes};
-ghost use Rattle.steps.specs.View.{packetOf, syncOf};
+ghost use Rattle.packets.specs.View.{packetOf, syncOf};
 ghost use Rattle.model.specs.Packet.{data-packet, sync-packet, discovery-packet};
 ghost use Rattle.model.specs.Calls.{poll-call, expiry-call, listen-call, mute-call, clear-call, clear-all-call, reset-call};
 ghost use Rattle.model.specs.Answer.{pollNumber, pollValues, expiryNumber, expiryValues, listenNumber, listenValues, muteNumber, muteValues, clearNumber, clearValues};
-ghost use Rattle.receiver.specs.View.{Memory, memory, with-numbers, with-held, with-heard, with-found, stateOf, spaceIn, announcementOf, pool-length, Kept};
+ghost use Rattle.receiver.specs.View.{Memory, memory, with-sequence-rows, with-waiting-rows, with-listened-rows, with-discovery-rows, stateOf, spaceIn, pool-length, Kept};
+ghost use Rattle.packets.specs.View.{announcementOf};
 ghost use Rattle.replay.specs.Text.{Ready};
 ghost use Rattle.replay.specs.Session.{begun, set-to, limited-to, called, changed, asked, stepped, Carries};
 use crate::answers::front;
@@ -42,7 +43,7 @@ pub struct Session {
 
 pub fn begin(session: Session, heard: &mut [u16; 1024], out: &mut [u8]) -> Session
     requires { ⌜ (length (now heard) ≡ 1024) × Ready (session .at) (now out) ⌝ }
-    ensures { λ r. ⌜ ((m : Memory) → Carries session m (now (out .entry)) begun r (with-heard (now (heard .exit)) m) (now (out .exit))) ⌝ }
+    ensures { λ r. ⌜ ((m : Memory) → Carries session m (now (out .entry)) begun r (with-listened-rows (now (heard .exit)) m) (now (out .exit))) ⌝ }
 {
     let receiver = Receiver::new(heard);
     let settings = Settings::new();
@@ -93,7 +94,7 @@ pub fn listen(
     out: &mut [u8],
 ) -> Session
     requires { ⌜ hearing.Kept (session .receiver .listened) (now heard) × Ready (session .at) (now out) ⌝ }
-    ensures { λ r. ⌜ ((m : Memory) → Carries session (with-heard (now (heard .entry)) m) (now (out .entry)) (called (listen-call (take n (now (list .entry)))) listenNumber listenValues (session .settings) (stateOf (session .receiver) (with-heard (now (heard .entry)) m))) r (with-heard (now (heard .exit)) m) (now (out .exit))) ⌝ }
+    ensures { λ r. ⌜ ((m : Memory) → Carries session (with-listened-rows (now (heard .entry)) m) (now (out .entry)) (called (listen-call (take n (now (list .entry)))) listenNumber listenValues (session .settings) (stateOf (session .receiver) (with-listened-rows (now (heard .entry)) m))) r (with-listened-rows (now (heard .exit)) m) (now (out .exit))) ⌝ }
 {
     let r = session.receiver;
     let settings = session.settings;
@@ -110,7 +111,7 @@ pub fn listen(
 
 pub fn mute(session: Session, heard: &mut [u16; 1024], universe: u16, out: &mut [u8]) -> Session
     requires { ⌜ hearing.Kept (session .receiver .listened) (now heard) × Ready (session .at) (now out) ⌝ }
-    ensures { λ r. ⌜ ((m : Memory) → Carries session (with-heard (now (heard .entry)) m) (now (out .entry)) (called (mute-call universe) muteNumber muteValues (session .settings) (stateOf (session .receiver) (with-heard (now (heard .entry)) m))) r (with-heard (now (heard .exit)) m) (now (out .exit))) ⌝ }
+    ensures { λ r. ⌜ ((m : Memory) → Carries session (with-listened-rows (now (heard .entry)) m) (now (out .entry)) (called (mute-call universe) muteNumber muteValues (session .settings) (stateOf (session .receiver) (with-listened-rows (now (heard .entry)) m))) r (with-listened-rows (now (heard .exit)) m) (now (out .exit))) ⌝ }
 {
     let r = session.receiver;
     let settings = session.settings;
@@ -127,7 +128,7 @@ pub fn mute(session: Session, heard: &mut [u16; 1024], universe: u16, out: &mut 
 
 pub fn ask(session: Session, heard: &[u16; 1024], universe: u16, out: &mut [u8]) -> Session
     requires { ⌜ hearing.Kept (session .receiver .listened) (now heard) × Ready (session .at) (now out) ⌝ }
-    ensures { λ r. ⌜ ((m : Memory) → Carries session (with-heard (now (heard .entry)) m) (now (out .entry)) (asked universe (session .settings) (stateOf (session .receiver) (with-heard (now (heard .entry)) m))) r (with-heard (now (heard .entry)) m) (now (out .exit))) ⌝ }
+    ensures { λ r. ⌜ ((m : Memory) → Carries session (with-listened-rows (now (heard .entry)) m) (now (out .entry)) (asked universe (session .settings) (stateOf (session .receiver) (with-listened-rows (now (heard .entry)) m))) r (with-listened-rows (now (heard .entry)) m) (now (out .exit))) ⌝ }
 {
     let receiver = session.receiver;
     let settings = session.settings;
@@ -152,7 +153,7 @@ pub fn poll(
     out: &mut [u8],
 ) -> Session
     requires { ⌜ numbered.Kept (session .receiver .sequences) (numbered.lent (now «data_pairs») (now «data_sources») (now «sync_pairs») (now «sync_sources»)) × (store-length ≤ length (now store) → held.Kept (session .receiver .waiting .count) (now rows) (now store)) × Ready (session .at) (now out) ⌝ }
-    ensures { λ r. ⌜ ((m : Memory) → Carries session (with-numbers (numbered.lent (now («data_pairs» .entry)) (now («data_sources» .entry)) (now («sync_pairs» .entry)) (now («sync_sources» .entry))) (with-held (now (rows .entry)) (now (store .entry)) m)) (now (out .entry)) (called (poll-call (length (now (store .entry))) (session .settings) reading) pollNumber pollValues (session .settings) (stateOf (session .receiver) (with-numbers (numbered.lent (now («data_pairs» .entry)) (now («data_sources» .entry)) (now («sync_pairs» .entry)) (now («sync_sources» .entry))) (with-held (now (rows .entry)) (now (store .entry)) m)))) r (with-numbers (numbered.lent (now («data_pairs» .exit)) (now («data_sources» .exit)) (now («sync_pairs» .exit)) (now («sync_sources» .exit))) (with-held (now (rows .exit)) (now (store .exit)) m)) (now (out .exit))) ⌝ }
+    ensures { λ r. ⌜ ((m : Memory) → Carries session (with-sequence-rows (numbered.lent (now («data_pairs» .entry)) (now («data_sources» .entry)) (now («sync_pairs» .entry)) (now («sync_sources» .entry))) (with-waiting-rows (now (rows .entry)) (now (store .entry)) m)) (now (out .entry)) (called (poll-call (length (now (store .entry))) (session .settings) reading) pollNumber pollValues (session .settings) (stateOf (session .receiver) (with-sequence-rows (numbered.lent (now («data_pairs» .entry)) (now («data_sources» .entry)) (now («sync_pairs» .entry)) (now («sync_sources» .entry))) (with-waiting-rows (now (rows .entry)) (now (store .entry)) m)))) r (with-sequence-rows (numbered.lent (now («data_pairs» .exit)) (now («data_sources» .exit)) (now («sync_pairs» .exit)) (now («sync_sources» .exit))) (with-waiting-rows (now (rows .exit)) (now (store .exit)) m)) (now (out .exit))) ⌝ }
 {
     let r = session.receiver;
     let settings = session.settings;
@@ -186,7 +187,7 @@ pub fn sweep(
     out: &mut [u8],
 ) -> Session
     requires { ⌜ (pool-length ≤ length (now universes) → found.Kept (session .receiver .discovery) (now sources) (now names) (now pages) (now universes)) × Ready (session .at) (now out) ⌝ }
-    ensures { λ r. ⌜ ((m : Memory) → Carries session (with-found (now (sources .entry)) (now (names .entry)) (now (pages .entry)) (now (universes .entry)) m) (now (out .entry)) (called (expiry-call (bytes (now (universes .entry))) reading) expiryNumber expiryValues (session .settings) (stateOf (session .receiver) (with-found (now (sources .entry)) (now (names .entry)) (now (pages .entry)) (now (universes .entry)) m))) r (with-found (now (sources .exit)) (now (names .exit)) (now (pages .exit)) (now (universes .exit)) m) (now (out .exit))) ⌝ }
+    ensures { λ r. ⌜ ((m : Memory) → Carries session (with-discovery-rows (now (sources .entry)) (now (names .entry)) (now (pages .entry)) (now (universes .entry)) m) (now (out .entry)) (called (expiry-call (bytes (now (universes .entry))) reading) expiryNumber expiryValues (session .settings) (stateOf (session .receiver) (with-discovery-rows (now (sources .entry)) (now (names .entry)) (now (pages .entry)) (now (universes .entry)) m))) r (with-discovery-rows (now (sources .exit)) (now (names .exit)) (now (pages .exit)) (now (universes .exit)) m) (now (out .exit))) ⌝ }
 {
     let r = session.receiver;
     let settings = session.settings;
@@ -209,7 +210,7 @@ pub fn clear(
     out: &mut [u8],
 ) -> Session
     requires { ⌜ (store-length ≤ length (now store) → held.Kept (session .receiver .waiting .count) (now rows) (now store)) × Ready (session .at) (now out) ⌝ }
-    ensures { λ r. ⌜ ((m : Memory) → Carries session (with-held (now (rows .entry)) (now (store .entry)) m) (now (out .entry)) (called (clear-call (length (now (store .entry))) universe) clearNumber clearValues (session .settings) (stateOf (session .receiver) (with-held (now (rows .entry)) (now (store .entry)) m))) r (with-held (now (rows .exit)) (now (store .exit)) m) (now (out .exit))) ⌝ }
+    ensures { λ r. ⌜ ((m : Memory) → Carries session (with-waiting-rows (now (rows .entry)) (now (store .entry)) m) (now (out .entry)) (called (clear-call (length (now (store .entry))) universe) clearNumber clearValues (session .settings) (stateOf (session .receiver) (with-waiting-rows (now (rows .entry)) (now (store .entry)) m))) r (with-waiting-rows (now (rows .exit)) (now (store .exit)) m) (now (out .exit))) ⌝ }
 {
     let r = session.receiver;
     let settings = session.settings;

@@ -20,13 +20,13 @@ use crate::fields::parse_octet;
 use crate::fields::parse_options;
 use crate::fields::parse_small;
 use crate::fields::parse_source;
-use receiver::DiscoveryPacket;
+use packets::DataPacket;
+use packets::DiscoveryPacket;
+use packets::SyncPacket;
 use rules::Cid;
 use rules::DataSequence;
 use rules::SyncSequence;
 use settings::MergeChoice;
-use steps::DataPacket;
-use steps::SyncPacket;
 
 // A data packet, its reading and how many values stand in the lent bytes.
 pub struct DataLine {

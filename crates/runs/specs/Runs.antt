@@ -16,7 +16,8 @@ use Rattle.model.specs.Step.{Space}
 use Rattle.model.specs.Calls.{listen-call, mute-call}
 use Rattle.reorder.specs.Demand.{Timed, Telling, listen, mute, nameOf, Answered}
 use Rattle.receiver.specs.declared.Receiver.{Receiver}
-use Rattle.receiver.specs.View.{Memory, stateOf, spaceIn, Steps, Begins, Does}
+use Rattle.receiver.specs.View.{Memory, stateOf, spaceIn, Begins, Does}
+use Rattle.handlers.specs.View.{Steps}
 
 -- "released bytes are the output within that length"
 abbrev pub byte-length : StepAnswer → ℕ

@@ -1,2 +1,3 @@
 pub mod Space
 pub mod Laws
+pub mod Finds

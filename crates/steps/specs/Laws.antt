@@ -1,20 +1,19 @@
 -- One law for each return of the parts of a step.
 -- Assumes nothing.
 use mathlib.Core.Path.{_≡_, refl, sym, ap, _∙_, subst}
-use mathlib.Core.Bool.{Bool, true, false, cond}
-use mathlib.Core.List.{List, [], _∷_, _++_, append-nil}
+use mathlib.Core.Bool.{true, false}
+use mathlib.Core.List.{List, [], _∷_, append-nil}
 use mathlib.Core.Logic.{_≢_}
 use mathlib.Core.Option.{Option, none, some}
-use Prim.Native.Nat.{ℕ, _+_, _≤_}
+use Prim.Native.Nat.{ℕ, _≤_}
 use native.Mathlib.Omega.{arith}
-use Rattle.table.specs.Cases.{split, found, clash}
+use Rattle.table.specs.Cases.{split, found}
 use native.Mathlib.Nat.{zero-add}
 use lib.Dec.{eqb, ltb}
-use lib.ListN.{length, drop}
+use lib.ListN.{length}
 use borrow.Author.Tests.{eq-eqb, ne-eqb}
-use Rattle.table.specs.Parts.{pasted, pasted-front}
+use Rattle.table.specs.Parts.{pasted-front}
 use Rattle.settings.specs.declared.Settings.{Settings}
-use Rattle.merge.specs.declared.DmxData.{DmxData}
 use Rattle.merge.specs.Merge.{Dmx}
 use Rattle.waiting.specs.declared.StoreAnswer.{StoreAnswer}
 use Rattle.waiting.specs.declared.StoreAnswer.the-variants as storing
@@ -31,7 +30,6 @@ use Rattle.waiting.specs.Entries as entries
 use Rattle.waiting.specs.Written.{Laid, Writing}
 use Rattle.waiting.specs.Calls.{Yields, StoredCall, StoreCalled, taken-is, taken-call, ReleaseCalled, released-is, released-leaves, released-writes, SweptCall}
 use Rattle.model.specs.Answer.{stepNumber}
-use Rattle.listening.specs.declared.Listened.{Listened}
 use Rattle.listening.specs.declared.ListenDone.{ListenDone}
 use Rattle.listening.specs.View.{listenedOf, Listens}
 use Rattle.listening.specs.View as listening
@@ -42,7 +40,7 @@ use Rattle.model.specs.declared.ListenAnswer.the-variants as listen
 use Rattle.model.specs.Packet as model
 use Rattle.model.specs.State.{State}
 use Rattle.model.specs.Step.{Outcome, outcome, illegal, joined-by, most-listened, with-waiting, with-listened, dmx, listen-all, heard, stored, kept, synchronised, unsynchronised, accepted, release, with-data, with-sync, if-accepted, stopped, data-arrival, sync-arrival, synchronise, data-pair, sync-pair, poll, poll-sync, poll-waiting}
-use Rattle.steps.specs.declared.DataPacket.{DataPacket}
+use Rattle.packets.specs.declared.DataPacket.{DataPacket}
 use Rattle.pairs.specs.declared.Checked.{Checked}
 use Rattle.pairs.specs.declared.Checked.the-variants as checked
 use Rattle.pairs.specs.Table as pairs
@@ -56,7 +54,8 @@ use Rattle.sequences.specs.Laws.{answer-some, answer-none}
 use Rattle.sequences.specs.Sequences.{Numbers, numbers, timeouts, timeouts-data, timeouts-sync}
 use Rattle.pairs.specs.View as counted
 use Rattle.pairs.specs.View.{Rows}
-use Rattle.steps.specs.View.{packetOf, dataOf, Lent, lentOf, waits, hears, Releases, Ready, Holds, Accepts, Counted, rowsOf, counts, Kept-counted, Tells, storeSaid, releaseSaid, Arrives, Synchronises, Polls}
+use Rattle.packets.specs.View.{packetOf}
+use Rattle.steps.specs.View.{dataOf, Lent, lentOf, waits, hears, Releases, Ready, Holds, Accepts, Counted, counts, Tells, storeSaid, releaseSaid, Arrives, Synchronises, Polls}
 
 -- ── the answers of the parts, told by the step ──
 pub store-tells : (c : StoreCall) → Tells (storeSaid c) (storeNumberOf c) (storeValuesOf c)

@@ -36,26 +36,9 @@ use Rattle.model.specs.declared.StepAnswer.the-variants as says
 use Rattle.model.specs.Answer.{stepNumber, stepValues}
 use Rattle.model.specs.Packet as model
 use Rattle.model.specs.State.{State}
-use Rattle.model.specs.Step.{Outcome, with-data, with-sync, with-waiting, with-listened, dmx, kept, synchronised, accepted, data-arrival, sync-arrival, poll}
-use Rattle.steps.specs.declared.DataPacket.{DataPacket}
-use Rattle.steps.specs.declared.SyncPacket.{SyncPacket}
-
--- the packets as the model has them
-abbrev pub packetOf : DataPacket → List ℕ → model.DataPacket
-packetOf p vs = record {
-  cid = p .cid;
-  universe = p .universe;
-  address = p .address;
-  priority = p .priority;
-  sequence = p .sequence .0;
-  preview = p .preview;
-  terminated = p .terminated;
-  force-synchronization = p .«force_synchronization»;
-  values = vs;
-}
-
-abbrev pub syncOf : SyncPacket → model.SyncPacket
-syncOf y = record { cid = y .cid; address = y .address; sequence = y .sequence .0 }
+use Rattle.model.specs.Step.{with-data, with-sync, with-waiting, with-listened, dmx, kept, synchronised, accepted, data-arrival, sync-arrival, poll}
+use Rattle.packets.specs.declared.DataPacket.{DataPacket}
+use Rattle.packets.specs.declared.SyncPacket.{SyncPacket}
 
 abbrev pub dataOf : DataPacket → ℕ → DmxData
 dataOf p now = record {

@@ -10,21 +10,21 @@ ghost use Rattle.model.specs.Step.{stopped};
 ghost use Rattle.pairs.specs.Table.{numberOf, valuesOf};
 ghost use Rattle.pairs.specs.View as counted;
 ghost use Rattle.sequences.specs.View as numbered;
-ghost use Rattle.steps.specs.View.{packetOf, dataOf, syncOf, lentOf, rowsOf, storeSaid, releaseSaid};
+ghost use Rattle.packets.specs.View.{packetOf, syncOf};
+ghost use Rattle.steps.specs.View.{dataOf, lentOf, rowsOf, storeSaid, releaseSaid};
 ghost use Rattle.steps.specs.View.{Tells, Releases, Holds, Accepts, Arrives, Synchronises, Polls};
 use listening::Listened;
 use merge::DmxData;
 use merge::SourceCid;
 use model::ListenAnswer;
 use model::StepAnswer;
+use packets::DataPacket;
+use packets::SyncPacket;
 use pairs::Checked;
 use pairs::DataTable;
 use pairs::SweepAnswer;
 use pairs::SyncTable;
 use pairs::is_accepted;
-use rules::Cid;
-use rules::DataSequence;
-use rules::SyncSequence;
 use sequences::SequenceNumbering;
 use settings::Settings;
 use waiting::ReleaseAnswer;
@@ -32,24 +32,6 @@ use waiting::StoreAnswer;
 use waiting::StoreCall;
 use waiting::Waiting;
 use waiting::write_record;
-
-// A data packet but for its values, which stand beside it as a lent part.
-pub struct DataPacket {
-    pub cid: Cid,
-    pub universe: u16,
-    pub address: u16,
-    pub priority: u8,
-    pub sequence: DataSequence,
-    pub preview: bool,
-    pub terminated: bool,
-    pub force_synchronization: bool,
-}
-
-pub struct SyncPacket {
-    pub cid: Cid,
-    pub address: u16,
-    pub sequence: SyncSequence,
-}
 
 struct PacketReleased {
     waiting: Waiting,

@@ -7,7 +7,7 @@ use Rattle.waiting.specs.Entries.{store-length}
 use Rattle.waiting.specs.Entries as held
 use Rattle.model.specs.Answer.{clearNumber, clearValues}
 use Rattle.model.specs.Calls.{clear-call}
-use Rattle.receiver.specs.View.{with-held}
+use Rattle.receiver.specs.View.{with-waiting-rows}
 use Rattle.receiver.specs.declared.Receiver.{Receiver}
 use Rattle.export.specs.Boundary.{clearedOf}
 use Rattle.export.specs.Laws.{answers, tells-clear}
@@ -38,7 +38,7 @@ returns c m =
     let s = c .before .before .before .before .before .before .before .before .before .before in
     let v = s .args in
     let h = c .before .before .before .before .before .clear-waiting-data in
-    answers (clear-call (length (v .store .now)) (v .universe)) clearNumber clearValues clearedOf tells-clear (v .header) (with-held (v .rows .now) (v .store .now) m) (h .result .receiver) (with-held (h .last .1 .0) (h .last .1 .1 .0) m) (h .result .answer) _ _ _
+    answers (clear-call (length (v .store .now)) (v .universe)) clearNumber clearValues clearedOf tells-clear (v .header) (with-waiting-rows (v .rows .now) (v .store .now) m) (h .result .receiver) (with-waiting-rows (h .last .1 .0) (h .last .1 .1 .0) m) (h .result .answer) _ _ _
     (c .before .before .before .before .before .before .before .before .receiver-of .ensures) (h .ensures m) (c .before .header-of .ensures) (c .cleared .ensures)
 
 pub tamburelvi-clear-waiting-data-spec : {M : Type 1} → statement M

@@ -4,7 +4,7 @@ use mathlib.Core.Path.{_≡_, sym, subst}
 use Rattle.listening.specs.View as hearing
 use Rattle.model.specs.State.{listens}
 use Rattle.receiver.specs.declared.Receiver.{Receiver}
-use Rattle.receiver.specs.View.{with-heard, stateOf}
+use Rattle.receiver.specs.View.{with-listened-rows, stateOf}
 use borrow.Author.Needs.{needs}
 use Rattle.export.proofs.tamburelvi_is_listening.Statement.{statement}
 use Rattle.export.proofs.tamburelvi_is_listening.Tie as tie
@@ -20,7 +20,7 @@ is-listening-requires c κs =
 returns : tie.Need-returns
 returns c m =
     let v = c .before .before .args in
-    subst (λ (x : Receiver). c .is-listening .result ≡ listens (v .universe) (stateOf x (with-heard (v .heard .now) m) .listened)) (c .before .receiver-of .ensures) (c .is-listening .ensures m)
+    subst (λ (x : Receiver). c .is-listening .result ≡ listens (v .universe) (stateOf x (with-listened-rows (v .heard .now) m) .listened)) (c .before .receiver-of .ensures) (c .is-listening .ensures m)
 
 pub tamburelvi-is-listening-spec : {M : Type 1} → statement M
 tamburelvi-is-listening-spec = tie.close (tie.spec receiver-of-requires is-listening-requires returns)

@@ -4,7 +4,7 @@ use mathlib.Core.Path.{sym, subst}
 use Rattle.listening.specs.View as hearing
 use Rattle.model.specs.Answer.{listenNumber, listenValues}
 use Rattle.model.specs.Calls.{listen-call}
-use Rattle.receiver.specs.View.{with-heard}
+use Rattle.receiver.specs.View.{with-listened-rows}
 use Rattle.receiver.specs.declared.Receiver.{Receiver}
 use Rattle.export.specs.Boundary.{heardOf}
 use Rattle.export.specs.Laws.{answers, tells-listen}
@@ -32,7 +32,7 @@ returns c m =
     let s = c .before .before .before .before .before .before .before in
     let v = s .args in
     let h = c .before .before .before .listen-universes in
-    answers (listen-call (v .list .now)) listenNumber listenValues heardOf tells-listen (v .header) (with-heard (v .heard .now) m) (h .result .receiver) (with-heard (h .last .1 .0) m) (h .result .answer) _ _ _
+    answers (listen-call (v .list .now)) listenNumber listenValues heardOf tells-listen (v .header) (with-listened-rows (v .heard .now) m) (h .result .receiver) (with-listened-rows (h .last .1 .0) m) (h .result .answer) _ _ _
     (c .before .before .before .before .before .receiver-of .ensures) (h .ensures m) (c .before .header-of .ensures) (c .heard-answer .ensures)
 
 pub tamburelvi-listen-universes-spec : {M : Type 1} → statement M

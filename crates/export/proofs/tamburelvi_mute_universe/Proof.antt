@@ -4,7 +4,7 @@ use mathlib.Core.Path.{sym, subst}
 use Rattle.listening.specs.View as hearing
 use Rattle.model.specs.Answer.{muteNumber, muteValues}
 use Rattle.model.specs.Calls.{mute-call}
-use Rattle.receiver.specs.View.{with-heard}
+use Rattle.receiver.specs.View.{with-listened-rows}
 use Rattle.receiver.specs.declared.Receiver.{Receiver}
 use Rattle.export.specs.Boundary.{mutedOf}
 use Rattle.export.specs.Laws.{answers, tells-mute}
@@ -32,7 +32,7 @@ returns c m =
     let s = c .before .before .before .before .before .before in
     let v = s .args in
     let h = c .before .before .before .mute-universe in
-    answers (mute-call (v .universe)) muteNumber muteValues mutedOf tells-mute (v .header) (with-heard (v .heard .now) m) (h .result .receiver) (with-heard (h .last .1 .0) m) (h .result .answer) _ _ _
+    answers (mute-call (v .universe)) muteNumber muteValues mutedOf tells-mute (v .header) (with-listened-rows (v .heard .now) m) (h .result .receiver) (with-listened-rows (h .last .1 .0) m) (h .result .answer) _ _ _
     (c .before .before .before .before .before .receiver-of .ensures) (h .ensures m) (c .before .header-of .ensures) (c .muted .ensures)
 
 pub tamburelvi-mute-universe-spec : {M : Type 1} → statement M

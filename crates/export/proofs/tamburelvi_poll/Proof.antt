@@ -10,7 +10,7 @@ use Rattle.waiting.specs.Entries.{store-length}
 use Rattle.waiting.specs.Entries as held
 use Rattle.model.specs.Answer.{pollNumber, pollValues}
 use Rattle.model.specs.Calls.{poll-call}
-use Rattle.receiver.specs.View.{with-numbers, with-held, Does}
+use Rattle.receiver.specs.View.{with-sequence-rows, with-waiting-rows, Does}
 use Rattle.receiver.specs.declared.Receiver.{Receiver}
 use Rattle.export.specs.Boundary.{settingsOf, polledOf}
 use Rattle.export.specs.Laws.{answers, tells-poll}
@@ -44,8 +44,8 @@ returns c m =
     let s = c .before .before .before .before .before .before .before .before .before .before .before .before .before .before .before in
     let v = s .args in
     let h = c .before .before .before .before .before .poll in
-    answers (poll-call (length (v .store .now)) (settingsOf (v .choices)) (v .reading)) pollNumber pollValues polledOf tells-poll (v .header) (with-numbers (lent (v .data-pairs .now) (v .data-sources .now) (v .sync-pairs .now) (v .sync-sources .now)) (with-held (v .rows .now) (v .store .now) m)) (h .result .receiver) (with-numbers (lent (h .last .1 .0) (h .last .1 .1 .0) (h .last .1 .1 .1 .0) (h .last .1 .1 .1 .1 .0)) (with-held (h .last .1 .1 .1 .1 .1 .0) (h .last .1 .1 .1 .1 .1 .1 .0) m)) (h .result .answer) _ _ _
-    (c .before .before .before .before .before .before .before .before .before .before .before .before .before .receiver-of .ensures) (subst (λ (w : Settings). Does (poll-call (length (v .store .now)) w (v .reading)) pollNumber (c .before .before .before .before .before .before .before .before .before .before .before .before .before .receiver-of .result) (with-numbers (lent (v .data-pairs .now) (v .data-sources .now) (v .sync-pairs .now) (v .sync-sources .now)) (with-held (v .rows .now) (v .store .now) m)) (h .result .receiver) (with-numbers (lent (h .last .1 .0) (h .last .1 .1 .0) (h .last .1 .1 .1 .0) (h .last .1 .1 .1 .1 .0)) (with-held (h .last .1 .1 .1 .1 .1 .0) (h .last .1 .1 .1 .1 .1 .1 .0) m)) (h .result .answer)) (c .before .before .before .before .before .before .before .before .before .before .before .before .settings-of .ensures) (h .ensures m)) (c .before .header-of .ensures) (c .polled .ensures)
+    answers (poll-call (length (v .store .now)) (settingsOf (v .choices)) (v .reading)) pollNumber pollValues polledOf tells-poll (v .header) (with-sequence-rows (lent (v .data-pairs .now) (v .data-sources .now) (v .sync-pairs .now) (v .sync-sources .now)) (with-waiting-rows (v .rows .now) (v .store .now) m)) (h .result .receiver) (with-sequence-rows (lent (h .last .1 .0) (h .last .1 .1 .0) (h .last .1 .1 .1 .0) (h .last .1 .1 .1 .1 .0)) (with-waiting-rows (h .last .1 .1 .1 .1 .1 .0) (h .last .1 .1 .1 .1 .1 .1 .0) m)) (h .result .answer) _ _ _
+    (c .before .before .before .before .before .before .before .before .before .before .before .before .before .receiver-of .ensures) (subst (λ (w : Settings). Does (poll-call (length (v .store .now)) w (v .reading)) pollNumber (c .before .before .before .before .before .before .before .before .before .before .before .before .before .receiver-of .result) (with-sequence-rows (lent (v .data-pairs .now) (v .data-sources .now) (v .sync-pairs .now) (v .sync-sources .now)) (with-waiting-rows (v .rows .now) (v .store .now) m)) (h .result .receiver) (with-sequence-rows (lent (h .last .1 .0) (h .last .1 .1 .0) (h .last .1 .1 .1 .0) (h .last .1 .1 .1 .1 .0)) (with-waiting-rows (h .last .1 .1 .1 .1 .1 .0) (h .last .1 .1 .1 .1 .1 .1 .0) m)) (h .result .answer)) (c .before .before .before .before .before .before .before .before .before .before .before .before .settings-of .ensures) (h .ensures m)) (c .before .header-of .ensures) (c .polled .ensures)
 
 pub tamburelvi-poll-spec : {M : Type 1} → statement M
 tamburelvi-poll-spec =

@@ -7,7 +7,7 @@ use Rattle.discovery.specs.View as found
 use Rattle.space.specs.Space.{bytes}
 use Rattle.model.specs.Answer.{expiryNumber, expiryValues}
 use Rattle.model.specs.Calls.{expiry-call}
-use Rattle.receiver.specs.View.{with-found, pool-length}
+use Rattle.receiver.specs.View.{with-discovery-rows, pool-length}
 use Rattle.receiver.specs.declared.Receiver.{Receiver}
 use Rattle.export.specs.Boundary.{sweptOf}
 use Rattle.export.specs.Laws.{answers, tells-expiry}
@@ -38,7 +38,7 @@ returns c m =
     let s = c .before .before .before .before .before .before .before .before .before .before .before .before in
     let v = s .args in
     let h = c .before .before .before .before .before .remove-expired-sources in
-    answers (expiry-call (bytes (v .universes .now)) (v .reading)) expiryNumber expiryValues sweptOf tells-expiry (v .header) (with-found (v .sources .now) (v .names .now) (v .pages .now) (v .universes .now) m) (h .result .receiver) (with-found (h .last .1 .0) (h .last .1 .1 .0) (h .last .1 .1 .1 .0) (h .last .1 .1 .1 .1 .0) m) (h .result .answer) _ _ _
+    answers (expiry-call (bytes (v .universes .now)) (v .reading)) expiryNumber expiryValues sweptOf tells-expiry (v .header) (with-discovery-rows (v .sources .now) (v .names .now) (v .pages .now) (v .universes .now) m) (h .result .receiver) (with-discovery-rows (h .last .1 .0) (h .last .1 .1 .0) (h .last .1 .1 .1 .0) (h .last .1 .1 .1 .1 .0) m) (h .result .answer) _ _ _
     (c .before .before .before .before .before .before .before .before .before .before .receiver-of .ensures) (h .ensures m) (c .before .header-of .ensures) (c .swept .ensures)
 
 pub tamburelvi-remove-expired-sources-spec : {M : Type 1} → statement M

@@ -1,6 +1,7 @@
 -- Address 0 is released at once, any other held.
 -- Assumes nothing.
-use Rattle.steps.specs.View.{packetOf, lentOf}
+use Rattle.packets.specs.View.{packetOf}
+use Rattle.steps.specs.View.{lentOf}
 use Rattle.steps.specs.Laws.{accepts-released, accepts-held}
 use borrow.Author.Needs.{needs}
 use Rattle.steps.proofs.accept_data.Statement.{statement}

@@ -2,7 +2,8 @@
 -- Assumes nothing.
 use mathlib.Core.Path.{sym, subst, _∙_}
 use Rattle.model.specs.declared.StepAnswer.{StepAnswer}
-use Rattle.steps.specs.View.{packetOf, lentOf, rowsOf, Arrives}
+use Rattle.packets.specs.View.{packetOf}
+use Rattle.steps.specs.View.{lentOf, rowsOf, Arrives}
 use Rattle.steps.specs.Laws.{arrives-accepted, arrives-stopped}
 use borrow.Author.Needs.{needs}
 use Rattle.steps.proofs.arrive_data.Statement.{statement}

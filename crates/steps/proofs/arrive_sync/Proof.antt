@@ -2,7 +2,8 @@
 -- Assumes nothing.
 use mathlib.Core.Path.{sym, subst, _∙_}
 use Rattle.model.specs.declared.StepAnswer.{StepAnswer}
-use Rattle.steps.specs.View.{syncOf, rowsOf, Synchronises}
+use Rattle.packets.specs.View.{syncOf}
+use Rattle.steps.specs.View.{rowsOf, Synchronises}
 use Rattle.steps.specs.Laws.{synchronises-called, synchronises-stopped}
 use borrow.Author.Needs.{needs}
 use Rattle.steps.proofs.arrive_sync.Statement.{statement}

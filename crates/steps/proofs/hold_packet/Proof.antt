@@ -6,7 +6,8 @@ use Rattle.merge.specs.Views.{dmx}
 use Rattle.waiting.specs.Calls.{StoreCalled}
 use Rattle.model.specs.declared.StepAnswer.{StepAnswer}
 use Rattle.model.specs.Step as model
-use Rattle.steps.specs.View.{packetOf, lentOf, Holds}
+use Rattle.packets.specs.View.{packetOf}
+use Rattle.steps.specs.View.{lentOf, Holds}
 use Rattle.steps.specs.Laws.{holds-illegal, holds-full, holds-called}
 use borrow.Author.Needs.{needs}
 use Rattle.steps.proofs.hold_packet.Statement.{statement}

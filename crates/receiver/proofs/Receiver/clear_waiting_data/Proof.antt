@@ -3,8 +3,8 @@
 use mathlib.Core.Path.{refl}
 use denote.Enum.Declared.{tagOf}
 use Rattle.space.proofs.Measured as measures
-use Rattle.receiver.specs.View.{with-held}
-use Rattle.receiver.specs.Laws.{short-of, not-short, room-for}
+use Rattle.receiver.specs.View.{with-waiting-rows}
+use Rattle.space.specs.Finds.{short-of, not-short, room-for}
 use Rattle.receiver.specs.Further.{does-clear-short, does-clear}
 use borrow.Author.Needs.{needs}
 use Rattle.receiver.proofs.Receiver.clear_waiting_data.Statement.{statement}
@@ -22,7 +22,7 @@ same-length c = search needs
 returns : tie.Need-returns
 returns c =
     let v = c .before .before .before .before .before .before .args in
-    λ m. does-clear-short (v .universe) (v .self) (with-held (v .rows .now) (v .store .now) m) (c .before .needed .given .0 .0) (short-of _ _ _ (c .before .before .before .test-waiting-store .ensures) (c .before .needed .given .1))
+    λ m. does-clear-short (v .universe) (v .self) (with-waiting-rows (v .rows .now) (v .store .now) m) (c .before .needed .given .0 .0) (short-of _ _ _ (c .before .before .before .test-waiting-store .ensures) (c .before .needed .given .1))
 
 clear-waiting-data-requires : tie.Need-clear-waiting-data-requires
 clear-waiting-data-requires c κs =
@@ -36,7 +36,7 @@ returns-2 : tie.Need-returns-2
 returns-2 c =
     let d = c .before .before .before in
     let v = c .before .before .before .before .before .before .before .before .before .before .before .before .before .before .args in
-    λ m. does-clear (v .universe) (v .self) (with-held (v .rows .now) (v .store .now) m)
+    λ m. does-clear (v .universe) (v .self) (with-waiting-rows (v .rows .now) (v .store .now) m)
     (d .clear-waiting-data .result .waiting) (d .clear-waiting-data .last .1 .0) (d .clear-waiting-data .last .1 .1 .0) (d .clear-waiting-data .result .held) (not-short (tagOf measures.the-type) (λ n. refl) _ _ (c .before .before .before .before .before .before .before .before .before .before .before .test-waiting-store .ensures) (c .before .before .before .before .before .before .before .before .before .before .match .keys2)) (d .clear-waiting-data .ensures .0) (d .clear-waiting-data .ensures .1)
 
 pub clear-waiting-data-spec : {M : Type 1} → statement M

@@ -4,8 +4,8 @@ use mathlib.Core.Path.{refl}
 use denote.Enum.Declared.{tagOf}
 use Rattle.space.proofs.Measured as measures
 use Rattle.sequences.specs.View.{lent}
-use Rattle.receiver.specs.View.{with-numbers, with-held}
-use Rattle.receiver.specs.Laws.{short-of, not-short, room-for}
+use Rattle.receiver.specs.View.{with-sequence-rows, with-waiting-rows}
+use Rattle.space.specs.Finds.{short-of, not-short, room-for}
 use Rattle.receiver.specs.Further.{does-poll-short, does-poll, does-poll-told}
 use borrow.Author.Needs.{needs}
 use Rattle.receiver.proofs.Receiver.poll.Statement.{statement}
@@ -23,7 +23,7 @@ same-length c = search needs
 returns : tie.Need-returns
 returns c =
     let v = c .before .before .before .before .before .before .args in
-    λ m. does-poll-short (v .settings) (v .reading) (v .self) (with-numbers (lent (v .data-pairs .now) (v .data-sources .now) (v .sync-pairs .now) (v .sync-sources .now)) (with-held (v .rows .now) (v .store .now) m)) (c .before .needed .given .0 .0) (short-of _ _ _ (c .before .before .before .test-waiting-store .ensures) (c .before .needed .given .1))
+    λ m. does-poll-short (v .settings) (v .reading) (v .self) (with-sequence-rows (lent (v .data-pairs .now) (v .data-sources .now) (v .sync-pairs .now) (v .sync-sources .now)) (with-waiting-rows (v .rows .now) (v .store .now) m)) (c .before .needed .given .0 .0) (short-of _ _ _ (c .before .before .before .test-waiting-store .ensures) (c .before .needed .given .1))
 
 poll-requires : tie.Need-poll-requires
 poll-requires c κs =
@@ -43,7 +43,7 @@ returns-2 : tie.Need-returns-2
 returns-2 c =
     let p = c .before .before .before .before .before .before in
     let v = c .before .before .before .before .before .before .before .before .before .before .before .before .before .before .before .before .before .before .before .before .before .args in
-    λ m. does-poll (v .settings) (v .reading) (v .self) (with-numbers (lent (v .data-pairs .now) (v .data-sources .now) (v .sync-pairs .now) (v .sync-sources .now)) (with-held (v .rows .now) (v .store .now) m))
+    λ m. does-poll (v .settings) (v .reading) (v .self) (with-sequence-rows (lent (v .data-pairs .now) (v .data-sources .now) (v .sync-pairs .now) (v .sync-sources .now)) (with-waiting-rows (v .rows .now) (v .store .now) m))
     _ _ _ _ _ _ (not-short (tagOf measures.the-type) (λ n. refl) _ _ (c .before .before .before .before .before .before .before .before .before .before .before .before .before .before .before .before .before .before .test-waiting-store .ensures) (c .before .before .before .before .before .before .before .before .before .before .before .before .before .before .before .before .before .match .keys2)) (p .poll .ensures) (c .enum-told .given .1)
 
 same-length-3 : tie.Need-same-length-3
@@ -53,7 +53,7 @@ returns-3 : tie.Need-returns-3
 returns-3 c =
     let p = c .before .before .before .before .before .before .before in
     let v = c .before .before .before .before .before .before .before .before .before .before .before .before .before .before .before .before .before .before .before .before .before .before .args in
-    λ m. does-poll-told (v .settings) (v .reading) (v .self) (with-numbers (lent (v .data-pairs .now) (v .data-sources .now) (v .sync-pairs .now) (v .sync-sources .now)) (with-held (v .rows .now) (v .store .now) m))
+    λ m. does-poll-told (v .settings) (v .reading) (v .self) (with-sequence-rows (lent (v .data-pairs .now) (v .data-sources .now) (v .sync-pairs .now) (v .sync-sources .now)) (with-waiting-rows (v .rows .now) (v .store .now) m))
     _ _ _ _ _ _ (not-short (tagOf measures.the-type) (λ n. refl) _ _ (c .before .before .before .before .before .before .before .before .before .before .before .before .before .before .before .before .before .before .before .test-waiting-store .ensures) (c .before .before .before .before .before .before .before .before .before .before .before .before .before .before .before .before .before .before .match .keys2)) (p .poll .ensures) _ _ (c .before .said .given .1)
 
 pub poll-spec : {M : Type 1} → statement M

@@ -3,8 +3,8 @@
 use mathlib.Core.Path.{refl}
 use denote.Enum.Declared.{tagOf}
 use Rattle.space.proofs.Measured as measures
-use Rattle.receiver.specs.View.{with-found}
-use Rattle.receiver.specs.Laws.{short-of, not-short}
+use Rattle.receiver.specs.View.{with-discovery-rows}
+use Rattle.space.specs.Finds.{short-of, not-short}
 use Rattle.receiver.specs.Further.{pool-room, does-expiry-short, does-expiry}
 use borrow.Author.Needs.{needs}
 use Rattle.receiver.proofs.Receiver.remove_expired_sources.Statement.{statement}
@@ -22,7 +22,7 @@ same-length c = search needs
 returns : tie.Need-returns
 returns c m =
     let v = c .before .before .before .before .before .before .args in
-    does-expiry-short (v .reading) (v .self) (with-found (v .sources .now) (v .names .now) (v .pages .now) (v .universes .now) m) (c .before .needed .given .0 .0) (short-of _ _ _ (c .before .before .before .test-page-store .ensures) (c .before .needed .given .1))
+    does-expiry-short (v .reading) (v .self) (with-discovery-rows (v .sources .now) (v .names .now) (v .pages .now) (v .universes .now) m) (c .before .needed .given .0 .0) (short-of _ _ _ (c .before .before .before .test-page-store .ensures) (c .before .needed .given .1))
 
 remove-expired-sources-requires : tie.Need-remove-expired-sources-requires
 remove-expired-sources-requires c κs =
@@ -36,7 +36,7 @@ returns-2 : tie.Need-returns-2
 returns-2 c m =
     let d = c .before .before in
     let v = c .before .before .before .before .before .before .before .before .before .before .before .before .before .before .before .args in
-    does-expiry (v .reading) (v .self) (with-found (v .sources .now) (v .names .now) (v .pages .now) (v .universes .now) m)
+    does-expiry (v .reading) (v .self) (with-discovery-rows (v .sources .now) (v .names .now) (v .pages .now) (v .universes .now) m)
     (d .remove-expired-sources .result) (d .remove-expired-sources .last .1 .0) (d .remove-expired-sources .last .1 .1 .0) (d .remove-expired-sources .last .1 .1 .1 .0) (d .remove-expired-sources .last .1 .1 .1 .1 .0) (not-short (tagOf measures.the-type) (λ n. refl) _ _ (c .before .before .before .before .before .before .before .before .before .before .before .before .test-page-store .ensures) (c .before .before .before .before .before .before .before .before .before .before .before .match .keys2)) (d .remove-expired-sources .ensures)
 
 pub remove-expired-sources-spec : {M : Type 1} → statement M

@@ -5,7 +5,7 @@ use mathlib.Core.List.{List}
 use Prim.Native.Nat.{ℕ}
 use Rattle.model.specs.Answer.{listenNumber, listenValues}
 use Rattle.model.specs.Calls.{listen-call}
-use Rattle.receiver.specs.View.{with-heard, Does}
+use Rattle.receiver.specs.View.{with-listened-rows, Does}
 use Rattle.replay.specs.SessionLaws.{carries-call}
 use borrow.Author.Needs.{needs}
 use Rattle.replay.proofs.calls.listen.Statement.{statement}
@@ -27,7 +27,7 @@ returns : tie.Need-returns
 returns c = λ m.
     let v = c .before .before .before .before .before .before .before .before .before .before .before .before .args in
     let l = c .before .before .before .before .before .listen-universes in
-    let d = subst (λ (us : List ℕ). Does (listen-call us) listenNumber (v .session .receiver) (with-heard (v .heard .now) m) (l .result .receiver) (with-heard (l .last .1 .0) m) (l .result .answer)) (c .before .before .before .before .before .before .front-numbers .ensures) (l .ensures m) in
+    let d = subst (λ (us : List ℕ). Does (listen-call us) listenNumber (v .session .receiver) (with-listened-rows (v .heard .now) m) (l .result .receiver) (with-listened-rows (l .last .1 .0) m) (l .result .answer)) (c .before .before .before .before .before .before .front-numbers .ensures) (l .ensures m) in
     carries-call listenValues d refl (c .before .before .put-listen .ensures)
 
 pub listen-spec : {M : Type 1} → statement M

@@ -4,7 +4,7 @@ use mathlib.Core.Path.{refl, ap}
 use mathlib.Core.List.{List}
 use Prim.Native.Nat.{ℕ}
 use Rattle.model.specs.Packet.{data-packet}
-use Rattle.steps.specs.View.{packetOf}
+use Rattle.packets.specs.View.{packetOf}
 use Rattle.replay.specs.SessionLaws.{carries-step}
 use borrow.Author.Needs.{needs}
 use Rattle.replay.proofs.calls.step_data.Statement.{statement}

@@ -5,7 +5,7 @@ use mathlib.Core.List.{List}
 use Prim.Native.Nat.{ℕ}
 use Rattle.model.specs.Packet.{discovery-packet}
 use lib.ListN.{take}
-use Rattle.receiver.specs.View.{announcementOf}
+use Rattle.packets.specs.View.{announcementOf}
 use Rattle.replay.specs.SessionLaws.{carries-step}
 use borrow.Author.Needs.{needs}
 use Rattle.replay.proofs.calls.step_discovery.Statement.{statement}

@@ -2,12 +2,12 @@
 -- Assumes nothing.
 use mathlib.Core.Path.{sym, _∙_}
 use Rattle.sequences.specs.View.{lent}
-use Rattle.steps.specs.View.{packetOf}
+use Rattle.packets.specs.View.{packetOf}
 use Rattle.receiver.specs.View.{memory}
-use Rattle.receiver.specs.Laws.{course-end, course-arrive, course-pass, takes-unwanted, takes-ended, takes-unheard, takes-data}
+use Rattle.taking.specs.Laws.{course-end, course-arrive, course-pass, takes-unwanted, takes-ended, takes-unheard, takes-data}
 use borrow.Author.Needs.{needs}
-use Rattle.receiver.proofs.Receiver.take_data.Statement.{statement}
-use Rattle.receiver.proofs.Receiver.take_data.Tie as tie
+use Rattle.taking.proofs.take_data.Statement.{statement}
+use Rattle.taking.proofs.take_data.Tie as tie
 
 is-unwanted-requires : tie.Need-is-unwanted-requires
 is-unwanted-requires c κs = search needs
@@ -15,7 +15,7 @@ is-unwanted-requires c κs = search needs
 returns : tie.Need-returns
 returns c =
     let v = c .before .before .before .before .before .before .args in
-    takes-unwanted (v .settings) (v .reading) (packetOf (v .packet) (v .values .now)) (v .self) (memory (v .data-pairs .now) (v .data-sources .now) (v .sync-pairs .now) (v .sync-sources .now) (v .rows .now) (v .store .now) (v .heard .now) (v .sources .now) (v .names .now) (v .pages .now) (v .universes .now)) (v .out .now) (sym (c .before .is-unwanted .ensures) ∙ c .if1 .taken)
+    takes-unwanted (v .settings) (v .reading) (packetOf (v .packet) (v .values .now)) (v .receiver) (memory (v .data-pairs .now) (v .data-sources .now) (v .sync-pairs .now) (v .sync-sources .now) (v .rows .now) (v .store .now) (v .heard .now) (v .sources .now) (v .names .now) (v .pages .now) (v .universes .now)) (v .out .now) (sym (c .before .is-unwanted .ensures) ∙ c .if1 .taken)
 
 is-listening-requires : tie.Need-is-listening-requires
 is-listening-requires c κs = search needs
@@ -39,7 +39,7 @@ returns-2 c =
     let k = o .before .is-listening in
     let u = c .before .before .before .before .before .before .before .before .before .before .before .before .before .before .before .before .before .before .before .before in
     let v = c .before .before .before .before .before .before .before .before .before .before .before .before .before .before .before .before .before .before .before .before .before .before .before .before .before .before .args in
-    takes-ended (v .settings) (v .reading) (packetOf (v .packet) (v .values .now)) (v .self) (memory (v .data-pairs .now) (v .data-sources .now) (v .sync-pairs .now) (v .sync-sources .now) (v .rows .now) (v .store .now) (v .heard .now) (v .sources .now) (v .names .now) (v .pages .now) (v .universes .now)) (v .out .now)
+    takes-ended (v .settings) (v .reading) (packetOf (v .packet) (v .values .now)) (v .receiver) (memory (v .data-pairs .now) (v .data-sources .now) (v .sync-pairs .now) (v .sync-sources .now) (v .rows .now) (v .store .now) (v .heard .now) (v .sources .now) (v .names .now) (v .pages .now) (v .universes .now)) (v .out .now)
     (t .end-stream .result) (lent (t .end-stream .last .1 .0) (t .end-stream .last .1 .1 .0) (t .end-stream .last .1 .1 .1 .0) (t .end-stream .last .1 .1 .1 .1 .0)) (t .end-stream .last .1 .1 .1 .1 .1 .1 .1 .0) (t .end-stream .last .1 .1 .1 .1 .1 .1 .1 .1 .0) _
     (sym (u .before .is-unwanted .ensures) ∙ u .if1 .left) (course-end (v .packet .terminated) (k .result) (o .course-of .result) (o .course-of .ensures) (c .before .before .before .before .before .before .before .before .before .before .before .enum-told .given .1)) (t .end-stream .ensures (memory (v .data-pairs .now) (v .data-sources .now) (v .sync-pairs .now) (v .sync-sources .now) (v .rows .now) (v .store .now) (v .heard .now) (v .sources .now) (v .names .now) (v .pages .now) (v .universes .now))) (rw (c .if2 .taken))
 
@@ -62,7 +62,7 @@ returns-3 c =
     let k = o .before .is-listening in
     let u = c .before .before .before .before .before .before .before .before .before .before .before .before .before .before .before .before .before .before .before .before in
     let v = c .before .before .before .before .before .before .before .before .before .before .before .before .before .before .before .before .before .before .before .before .before .before .before .before .before .before .args in
-    takes-ended (v .settings) (v .reading) (packetOf (v .packet) (v .values .now)) (v .self) (memory (v .data-pairs .now) (v .data-sources .now) (v .sync-pairs .now) (v .sync-sources .now) (v .rows .now) (v .store .now) (v .heard .now) (v .sources .now) (v .names .now) (v .pages .now) (v .universes .now)) (v .out .now)
+    takes-ended (v .settings) (v .reading) (packetOf (v .packet) (v .values .now)) (v .receiver) (memory (v .data-pairs .now) (v .data-sources .now) (v .sync-pairs .now) (v .sync-sources .now) (v .rows .now) (v .store .now) (v .heard .now) (v .sources .now) (v .names .now) (v .pages .now) (v .universes .now)) (v .out .now)
     (t .end-stream .result) (lent (t .end-stream .last .1 .0) (t .end-stream .last .1 .1 .0) (t .end-stream .last .1 .1 .1 .0) (t .end-stream .last .1 .1 .1 .1 .0)) (t .end-stream .last .1 .1 .1 .1 .1 .1 .1 .0) (t .end-stream .last .1 .1 .1 .1 .1 .1 .1 .1 .0) _
     (sym (u .before .is-unwanted .ensures) ∙ u .if1 .left) (course-end (v .packet .terminated) (k .result) (o .course-of .result) (o .course-of .ensures) (c .before .before .before .before .before .before .before .before .before .before .before .enum-told .given .1)) (t .end-stream .ensures (memory (v .data-pairs .now) (v .data-sources .now) (v .sync-pairs .now) (v .sync-sources .now) (v .rows .now) (v .store .now) (v .heard .now) (v .sources .now) (v .names .now) (v .pages .now) (v .universes .now))) (rw (c .if2 .left))
 
@@ -80,7 +80,7 @@ returns-4 c =
     let u = c .before .before .before .before .before .before .before .before .before .before .before .before .before .before .before .before .before .before .before .before .before .before .before .before .before in
     let v = c .before .before .before .before .before .before .before .before .before .before .before .before .before .before .before .before .before .before .before .before .before .before .before .before .before .before .before .before .before .before .before .args in
     let h = course-arrive (v .packet .terminated) (k .result) (o .course-of .result) (o .course-of .ensures) (c .before .before .before .before .before .before .before .before .before .before .before .before .before .before .before .before .enum-told2 .given .1) in
-    takes-data (v .settings) (v .reading) (packetOf (v .packet) (v .values .now)) (v .self) (memory (v .data-pairs .now) (v .data-sources .now) (v .sync-pairs .now) (v .sync-sources .now) (v .rows .now) (v .store .now) (v .heard .now) (v .sources .now) (v .names .now) (v .pages .now) (v .universes .now)) (v .out .now)
+    takes-data (v .settings) (v .reading) (packetOf (v .packet) (v .values .now)) (v .receiver) (memory (v .data-pairs .now) (v .data-sources .now) (v .sync-pairs .now) (v .sync-sources .now) (v .rows .now) (v .store .now) (v .heard .now) (v .sources .now) (v .names .now) (v .pages .now) (v .universes .now)) (v .out .now)
     (a .arrive-data .result .«data») (a .arrive-data .last .1 .1 .1 .0) (a .arrive-data .last .1 .1 .1 .1 .0) (a .arrive-data .result .waiting) (a .arrive-data .result .listened) (a .arrive-data .last .1 .1 .1 .1 .1 .0) (a .arrive-data .last .1 .1 .1 .1 .1 .1 .0) (a .arrive-data .last .1 .1 .1 .1 .1 .1 .1 .0) (a .arrive-data .last .1 .1 .1 .1 .1 .1 .1 .1 .1 .1 .1 .1 .0) (a .arrive-data .result .answer)
     (sym (u .before .is-unwanted .ensures) ∙ u .if1 .left) (h .0) (sym (k .ensures) ∙ h .1) (a .arrive-data .ensures)
 
@@ -91,7 +91,7 @@ returns-5 c =
     let u = c .before .before .before .before .before .before .before .before .before in
     let v = c .before .before .before .before .before .before .before .before .before .before .before .before .before .before .before .args in
     let h = course-pass (v .packet .terminated) (k .result) (o .course-of .result) (o .course-of .ensures) (c .enum-told3 .given .1) in
-    takes-unheard (v .settings) (v .reading) (packetOf (v .packet) (v .values .now)) (v .self) (memory (v .data-pairs .now) (v .data-sources .now) (v .sync-pairs .now) (v .sync-sources .now) (v .rows .now) (v .store .now) (v .heard .now) (v .sources .now) (v .names .now) (v .pages .now) (v .universes .now)) (v .out .now)
+    takes-unheard (v .settings) (v .reading) (packetOf (v .packet) (v .values .now)) (v .receiver) (memory (v .data-pairs .now) (v .data-sources .now) (v .sync-pairs .now) (v .sync-sources .now) (v .rows .now) (v .store .now) (v .heard .now) (v .sources .now) (v .names .now) (v .pages .now) (v .universes .now)) (v .out .now)
     (sym (u .before .is-unwanted .ensures) ∙ u .if1 .left) (h .0) (sym (k .ensures) ∙ h .1)
 
 pub take-data-spec : {M : Type 1} → statement M

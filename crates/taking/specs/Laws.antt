@@ -1,15 +1,12 @@
--- One law for each return of the receiver's calls.
+-- One law for each return of the parts of a step.
 -- Assumes nothing.
 use mathlib.Core.Path.{_≡_, refl, sym, ap, subst, _∙_}
 use mathlib.Core.Bool.{Bool, true, false, cond, not, _&&_}
 use mathlib.Core.Option.{Option, none, some}
 use mathlib.Core.List.{List, []}
-use mathlib.Core.Logic.{_⊎_, inl, inr}
 use Prim.Native.Nat.{ℕ, _+_, _≤_}
 use native.Mathlib.Omega.{arith}
-use lib.Dec.{ltb}
 use lib.ListN.{length}
-use borrow.Author.Tests.{ltb-false}
 use Rattle.table.specs.Cases.{split, found, clash, missing}
 use Rattle.rules.specs.declared.Cid.{Cid}
 use Rattle.rules.specs.Answer.{Value, first-of}
@@ -22,12 +19,12 @@ use Rattle.pairs.specs.declared.SweepAnswer.{SweepAnswer}
 use Rattle.pairs.specs.declared.SweepAnswer.the-variants.{Quiet, TimedOut}
 use Rattle.sequences.specs.declared.SequenceNumbering.{SequenceNumbering}
 use Rattle.sequences.specs.Sequences.{numbers, removed}
-use Rattle.sequences.specs.View as numbered
+use Rattle.sequences.specs.View as sequences
 use Rattle.sequences.specs.Laws.{answer-some, answer-none, removed-found}
 use Rattle.waiting.specs.declared.Waiting.{Waiting}
 use Rattle.waiting.specs.Records.{most-bytes}
 use Rattle.waiting.specs.Laws.{over-none}
-use Rattle.waiting.specs.Entries.{store-length, lent-none, lent-then}
+use Rattle.waiting.specs.Entries.{store-length, lent-none}
 use Rattle.waiting.specs.Entries as waiting
 use Rattle.listening.specs.declared.Listened.{Listened}
 use Rattle.discovery.specs.declared.Discovery.{Discovery}
@@ -36,54 +33,28 @@ use Rattle.discovery.specs.declared.PageAnswer.the-variants as page
 use Rattle.discovery.specs.declared.PageCall.{PageCall}
 use Rattle.discovery.specs.declared.PageCall.the-variants as paging
 use Rattle.discovery.specs.declared.PageCalled.{PageCalled}
-use Rattle.merge.specs.Merge.{most-values}
-use Rattle.discovery.specs.Discovery.{Announcement, Discovered, most-name, most-universes, arrived, ended}
+use Rattle.discovery.specs.Discovery.{Discovered, arrived, ended}
 use Rattle.discovery.specs.View.{discoveredOf, Holds}
 use Rattle.discovery.specs.View as discovery
 use Rattle.discovery.specs.Arrive.{Called, page-call-fits}
 use Rattle.discovery.specs.Lent as pool
-use Rattle.space.specs.declared.Measured.{Measured}
-use Rattle.space.specs.declared.Measured.the-variants as measured
-use Rattle.space.specs.Space.{spaceOf, shortage, excess}
+use Rattle.space.specs.Space.{spaceOf}
 use Rattle.model.specs.declared.StepAnswer.{StepAnswer}
 use Rattle.model.specs.declared.StepAnswer.the-variants as says
-use Rattle.model.specs.Packet.{DataPacket, SyncPacket, Packet, data-packet, sync-packet, discovery-packet, too-long, over as longer}
+use Rattle.model.specs.Packet.{DataPacket, SyncPacket, Packet, data-packet, sync-packet, discovery-packet, too-long}
 use Rattle.model.specs.State.{State, listens}
 use Rattle.model.specs.Step as model
-use Rattle.model.specs.Step.{Space, outcome, short, too-short, page-bytes, poll, polled, data-step, terminated, sync-step, discovery-step, listed, packet-step, step}
+use Rattle.model.specs.Step.{Space, outcome, too-short, page-bytes, poll, polled, data-step, terminated, sync-step, discovery-step, listed, packet-step, step}
 use Rattle.steps.specs.View.{Polls, Arrives, Synchronises, rowsOf, lentOf}
 use Rattle.receiver.specs.declared.Receiver.{Receiver}
-use Rattle.receiver.specs.declared.Course.{Course}
-use Rattle.receiver.specs.declared.Course.the-variants as course
-use Rattle.receiver.specs.declared.DiscoveryPacket.{DiscoveryPacket}
-use Rattle.receiver.specs.View.{Memory, numbersIn, with-numbers, with-sync-numbers, with-held, with-heard, with-found, stateOf, spaceIn, pool-length, Kept, longOf, announcementOf, opening, courseOf, Opens, Ends, called, Tells, Takes, Steps}
+use Rattle.taking.specs.declared.Course.{Course}
+use Rattle.taking.specs.declared.Course.the-variants as course
+use Rattle.packets.specs.declared.DiscoveryPacket.{DiscoveryPacket}
+use Rattle.receiver.specs.View.{Memory, sequencesIn, with-sequence-rows, with-sync-rows, with-waiting-rows, with-listened-rows, with-discovery-rows, stateOf, spaceIn, pool-length, Kept}
+use Rattle.packets.specs.View.{announcementOf}
+use Rattle.taking.specs.View.{opening, courseOf, Opens, Ends, called, Tells, Takes}
 
 -- ── lengths ──
-pub short-of : (x : Measured) (o : Option ℕ) (n : ℕ) → x ≡ shortage o → x ≡ measured.TooShort n → o ≡ some n
-short-of x none n e f = let z : _≡_ {A = ℕ} 0 1 = cc in absurd (omega arith)
-short-of x (some k) n e f = let z : k ≡ n = cc in ap {B = Option ℕ} some z
-
--- by the places of the cases in the enum, as a test tells them
-module _ (tag : Measured → ℕ) where
-  pub not-short : ((n : ℕ) → tag (measured.TooShort n) ≡ 2) → (x : Measured) (o : Option ℕ) → x ≡ shortage o → (tag x ≡ 0) ⊎ (tag x ≡ 1) → o ≡ none
-  not-short t x none e k = refl
-  not-short t x (some n) e (inl k) = let z : _≡_ {A = ℕ} 2 0 = sym (ap tag e ∙ t n) ∙ k in absurd (omega arith)
-  not-short t x (some n) e (inr k) = let z : _≡_ {A = ℕ} 2 1 = sym (ap tag e ∙ t n) ∙ k in absurd (omega arith)
-
-  pub not-long : ((n : ℕ) → tag (measured.TooLong n) ≡ 1) → (x : Measured) → (tag x ≡ 0) ⊎ (tag x ≡ 2) → longOf x ≡ none
-  not-long t measured.Fits k = refl
-  not-long t (measured.TooLong n) (inl k) = let z : _≡_ {A = ℕ} 1 0 = sym (t n) ∙ k in absurd (omega arith)
-  not-long t (measured.TooLong n) (inr k) = let z : _≡_ {A = ℕ} 1 2 = sym (t n) ∙ k in absurd (omega arith)
-  not-long t (measured.TooShort n) k = refl
-
--- what a store that is long enough says of its length
-pub room-for : (needed room : ℕ) → short needed room ≡ none → needed ≤ room
-room-for needed room e = split (ltb room needed) (λ h. missing _ refl (rw h at e)) (λ h. ltb-false room needed h)
-
-first-none : (a b : Option ℕ) → first-of a b ≡ none → (a ≡ none) × (b ≡ none)
-first-none none b e = (refl, e)
-first-none (some n) b e = missing n refl e
-
 pub record Long (out store universes : List ℕ) : Type 0 where
   pub output : most-bytes ≤ length out
   pub held : store-length ≤ length store
@@ -96,39 +67,6 @@ long-enough out store universes e =
     let b = first-none _ _ (a .1) in
     let c = room-for page-bytes (length universes + length universes) (b .1) in
     record { output = room-for _ _ (a .0); held = room-for _ _ (b .0); found = omega arith }
-
--- the packet's own parts, as measured
-pub long-of : (o : Option ℕ) → longOf (excess o) ≡ o
-long-of none = refl
-long-of (some n) = refl
-
-over-room : (most : ℕ) (part : List ℕ) → longer most part ≡ none → length part ≤ most
-unfolding longer
-over-room most part e = split (ltb most (length part)) (λ h. missing _ refl (rw h at e)) (λ h. ltb-false most (length part) h)
-
-pub long-data : (d : DataPacket) (x : Measured) → x ≡ excess (longer most-values (d .values)) → too-long (data-packet d) ≡ longOf x
-unfolding too-long
-long-data d x e = sym (ap longOf e ∙ long-of _)
-
-pub long-sync : (y : SyncPacket) → too-long (sync-packet y) ≡ none
-unfolding too-long
-long-sync y = refl
-
-pub long-announcement : (a : Announcement) (x : Measured) → x ≡ excess (first-of (longer most-name (a .name)) (longer most-universes (a .universes))) → too-long (discovery-packet a) ≡ longOf x
-unfolding too-long
-long-announcement a x e = sym (ap longOf e ∙ long-of _)
-
-pub values-fit : (d : DataPacket) → too-long (data-packet d) ≡ none → length (d .values) ≤ 513
-unfolding too-long
-values-fit d e = over-room most-values (d .values) e
-
-pub name-fits : (a : Announcement) → too-long (discovery-packet a) ≡ none → length (a .name) ≤ 63
-unfolding too-long
-name-fits a e = over-room most-name (a .name) (first-none _ _ e .0)
-
-pub list-fits : (a : Announcement) → too-long (discovery-packet a) ≡ none → length (a .universes) ≤ 512
-unfolding too-long
-list-fits a e = over-room most-universes (a .universes) (first-none (longer most-name (a .name)) (longer most-universes (a .universes)) e .1)
 
 -- ── the opening ──
 step-short : (m : Space) (S : Settings) (now n : ℕ) (p : Packet) (s : State) → too-short m ≡ some n → step m S now p s ≡ outcome s (says.TooShort n)
@@ -143,17 +81,6 @@ step-polled : (m : Space) (S : Settings) (now : ℕ) (p : Packet) (s s′ : Stat
     → step m S now p s ≡ polled S now p (s′, o)
 unfolding step model.measured
 step-polled m S now p s s′ o e f g = rw (e, step, f, model.measured) (ap (polled S now p) g)
-
--- a poll leaves what calls presuppose
-pub polled-kept : (S : Settings) (now : ℕ) (r : Receiver) (m : Memory) {q : SequenceNumbering} {n : numbered.Lent} {w : Waiting} {rows : Rows} {store : List ℕ} {a : SweepAnswer}
-    → Polls S now (r .sequences) (numbersIn m) (r .waiting .count) (m .rows) (m .store) q n (w .count) rows store a → Kept r m
-    → Kept (record { sequences = q; waiting = w; listened = r .listened; discovery = r .discovery }) (with-numbers n (with-held rows store m))
-polled-kept S now r m p k = record {
-  kept-sequences = p .kept;
-  kept-waiting = λ h. p .kept-waiting;
-  kept-listened = k .kept-listened;
-  kept-discovery = k .kept-discovery;
-}
 
 module _ (S : Settings) (now : ℕ) (long : Option ℕ) (r : Receiver) (m : Memory) (out : List ℕ) where
   pub opens-short : (n : ℕ) → too-short (spaceIn m out) ≡ some n → Opens S now long r m out r m true (says.TooShort n)
@@ -180,13 +107,13 @@ module _ (S : Settings) (now : ℕ) (long : Option ℕ) (r : Receiver) (m : Memo
     told = λ own i. opening (sym z i) (sym l i) (poll S now (stateOf r m) .1);
   }
 
-  module _ {q : SequenceNumbering} {n : numbered.Lent} {w : Waiting} {rows : Rows} {store : List ℕ} {a : SweepAnswer} (z : too-short (spaceIn m out) ≡ none) (l : long ≡ none)
-      (p : Polls S now (r .sequences) (numbersIn m) (r .waiting .count) (m .rows) (m .store) q n (w .count) rows store a) where
+  module _ {q : SequenceNumbering} {n : sequences.Lent} {w : Waiting} {rows : Rows} {store : List ℕ} {a : SweepAnswer} (z : too-short (spaceIn m out) ≡ none) (l : long ≡ none)
+      (p : Polls S now (r .sequences) (sequencesIn m) (r .waiting .count) (m .rows) (m .store) q n (w .count) rows store a) where
     next : Receiver
     next = record { sequences = q; waiting = w; listened = r .listened; discovery = r .discovery }
 
     left : Memory
-    left = with-numbers n (with-held rows store m)
+    left = with-sequence-rows n (with-waiting-rows rows store m)
 
     stepped : (o : Option Key) → p .timed-out ≡ o → (x : Packet) → too-long x ≡ long → step (spaceIn m out) S now x (stateOf r m) ≡ polled S now x (stateOf next left, o)
     unfolding next left
@@ -208,7 +135,7 @@ module _ (S : Settings) (now : ℕ) (long : Option ℕ) (r : Receiver) (m : Memo
         ∙ (λ i. opening (sym z i) (sym l i) (poll S now (stateOf r m) .1))
 
     pub opens-told : (c : Cid) (u : ℕ) → a ≡ TimedOut c u
-        → Opens S now long r m out (record { sequences = q; waiting = w; listened = r .listened; discovery = r .discovery }) (with-numbers n (with-held rows store m)) true (says.UniverseTimeout c u)
+        → Opens S now long r m out (record { sequences = q; waiting = w; listened = r .listened; discovery = r .discovery }) (with-sequence-rows n (with-waiting-rows rows store m)) true (says.UniverseTimeout c u)
     unfolding next left polled
     opens-told c u e = record {
       ends = λ t x f. stepped (some (key c u)) (answer-some (p .timed-out) c u (sym e ∙ p .answer-is)) x f;
@@ -222,7 +149,7 @@ module _ (S : Settings) (now : ℕ) (long : Option ℕ) (r : Receiver) (m : Memo
     }
 
     pub opens-quiet : a ≡ Quiet
-        → Opens S now long r m out (record { sequences = q; waiting = w; listened = r .listened; discovery = r .discovery }) (with-numbers n (with-held rows store m)) false says.Nothing
+        → Opens S now long r m out (record { sequences = q; waiting = w; listened = r .listened; discovery = r .discovery }) (with-sequence-rows n (with-waiting-rows rows store m)) false says.Nothing
     unfolding next left polled
     opens-quiet e = record {
       ends = λ t. clash t refl;
@@ -278,7 +205,7 @@ module _ (S : Settings) (now : ℕ) (y : SyncPacket) (r : Receiver) (m : Memory)
   pub takes-sync : (t : SyncTable) (sp ss : Rows) (w : Waiting) (rows : Rows) (store out′ : List ℕ) (a : StepAnswer) → listens (y .address) (stateOf r m .listened) ≡ true
       → Synchronises S now y (rowsOf (r .sequences .sync .table) (m .sync-pairs) (m .sync-sources)) (r .waiting .count) (m .rows) (m .store) out (rowsOf (t .table) sp ss) (w .count) rows store out′ a
       → Takes S now (sync-packet y) r m out (record { sequences = record { «data» = r .sequences .«data»; sync = t }; waiting = w; listened = r .listened; discovery = r .discovery })
-      (with-sync-numbers sp ss (with-held rows store m)) out′ a
+      (with-sync-rows sp ss (with-waiting-rows rows store m)) out′ a
   takes-sync t sp ss w rows store out′ a e y′ = record {
     released = y′ .released;
     outcome-is = sync-heard S now y (stateOf r m) e ∙ y′ .outcome-is (stateOf r m) refl refl;
@@ -298,7 +225,7 @@ module _ (S : Settings) (now : ℕ) (p : DiscoveryPacket) (name list : List ℕ)
   pub takes-discovery : (d : PageCalled) (sources names pages : Rows) (universes : List ℕ) (a : StepAnswer) → length name ≤ 63 → length list ≤ 512
       → Called (r .discovery) (m .sources) (m .names) (m .pages) (m .universes) now (announcementOf p name list) d sources names pages universes → a ≡ called S (d .answer)
       → Takes S now (discovery-packet (announcementOf p name list)) r m out
-      (record { sequences = r .sequences; waiting = r .waiting; listened = r .listened; discovery = d .discovery }) (with-found sources names pages universes m) out a
+      (record { sequences = r .sequences; waiting = r .waiting; listened = r .listened; discovery = d .discovery }) (with-discovery-rows sources names pages universes m) out a
   unfolding packet-step discovery-step
   takes-discovery d sources names pages universes a f h t e =
       let g = arrived now (announcementOf p name list) (stateOf r m .discovered) in
@@ -400,14 +327,14 @@ removed-terminated d s =
     (λ e. rw (e, removed-found k n none e))
     (λ x e. rw (e, removed-found k n (some x) e))
 
-pub ends-stream : (c : Cid) (u : ℕ) (r : Receiver) (m : Memory) (q : SequenceNumbering) (n : numbered.Lent) (d : Discovery) (pages : Rows) (universes : List ℕ)
-    → numbered.numbersOf q n ≡ removed (key c u) (numbered.numbersOf (r .sequences) (numbersIn m)) → numbered.Kept q n
+pub ends-stream : (c : Cid) (u : ℕ) (r : Receiver) (m : Memory) (q : SequenceNumbering) (n : sequences.Lent) (d : Discovery) (pages : Rows) (universes : List ℕ)
+    → sequences.numbersOf q n ≡ removed (key c u) (sequences.numbersOf (r .sequences) (sequencesIn m)) → sequences.Kept q n
     → Holds (m .universes) d (m .sources) (m .names) pages universes (ended c u (stateOf r m .discovered))
-    → Ends c u r m (record { sequences = q; waiting = r .waiting; listened = r .listened; discovery = d }) (with-numbers n (with-found (m .sources) (m .names) pages universes m))
+    → Ends c u r m (record { sequences = q; waiting = r .waiting; listened = r .listened; discovery = d }) (with-sequence-rows n (with-discovery-rows (m .sources) (m .names) pages universes m))
 ends-stream c u r m q n d pages universes e k h = record {
   state-is = λ x f g.
       removed-terminated x (stateOf r m)
-      ∙ (λ i. (let z = removed (key (f i) (g i)) (numbered.numbersOf (r .sequences) (numbersIn m)) in
+      ∙ (λ i. (let z = removed (key (f i) (g i)) (sequences.numbersOf (r .sequences) (sequencesIn m)) in
       record { data-pairs = z .data-table; sync-pairs = z .sync-table; waiting = stateOf r m .waiting; listened = stateOf r m .listened; discovered = ended (f i) (g i) (stateOf r m .discovered) }))
       ∙ (λ i. record { data-pairs = sym e i .data-table; sync-pairs = sym e i .sync-table; waiting = stateOf r m .waiting; listened = stateOf r m .listened; discovered = sym (h .seen) i });
   kept = λ x. record { kept-sequences = k; kept-waiting = x .kept-waiting; kept-listened = x .kept-listened; kept-discovery = λ l. h .kept };
@@ -442,10 +369,10 @@ module _ (S : Settings) (now : ℕ) (d : DataPacket) (r : Receiver) (m : Memory)
       → Takes S now (data-packet d) r m out r m out says.Nothing
   takes-unheard e f g = takes-nothing S now (data-packet d) r m out says.Nothing (data-unheard S now d (stateOf r m) e f g)
 
-  pub takes-ended : (r′ : Receiver) (n : numbered.Lent) (pages : Rows) (universes : List ℕ) (a : StepAnswer) → d .preview && not (S .«process_preview_data») ≡ false → d .terminated ≡ true
-      → Ends (d .cid) (d .universe) r m r′ (with-numbers n (with-found (m .sources) (m .names) pages universes m))
+  pub takes-ended : (r′ : Receiver) (n : sequences.Lent) (pages : Rows) (universes : List ℕ) (a : StepAnswer) → d .preview && not (S .«process_preview_data») ≡ false → d .terminated ≡ true
+      → Ends (d .cid) (d .universe) r m r′ (with-sequence-rows n (with-discovery-rows (m .sources) (m .names) pages universes m))
       → cond (S .«announce_stream_termination») (says.UniverseTerminated (d .cid) (d .universe)) says.Nothing ≡ a
-      → Takes S now (data-packet d) r m out r′ (with-numbers n (with-found (m .sources) (m .names) pages universes m)) out a
+      → Takes S now (data-packet d) r m out r′ (with-sequence-rows n (with-discovery-rows (m .sources) (m .names) pages universes m)) out a
   takes-ended r′ n pages universes a e f t g = record {
     released = [];
     outcome-is = data-ended S now d (stateOf r m) e f ∙ (λ i. outcome (t .state-is d refl refl i) (g i));
@@ -460,7 +387,7 @@ module _ (S : Settings) (now : ℕ) (d : DataPacket) (r : Receiver) (m : Memory)
       → Arrives S now d (rowsOf (r .sequences .«data» .table) (m .data-pairs) (m .data-sources)) (lentOf (r .waiting .count) (r .listened) (m .rows) (m .store) (m .heard)) out
       (rowsOf (t .table) dp ds) (lentOf (w .count) l rows store heard) out′ a
       → Takes S now (data-packet d) r m out (record { sequences = record { «data» = t; sync = r .sequences .sync }; waiting = w; listened = l; discovery = r .discovery })
-      (with-numbers (numbered.lent dp ds (m .sync-pairs) (m .sync-sources)) (with-held rows store (with-heard heard m))) out′ a
+      (with-sequence-rows (sequences.lent dp ds (m .sync-pairs) (m .sync-sources)) (with-waiting-rows rows store (with-listened-rows heard m))) out′ a
   takes-data t dp ds w l rows store heard out′ a e f g x = record {
     released = x .released;
     outcome-is = data-heard S now d (stateOf r m) e f g ∙ x .outcome-is (stateOf r m) refl refl refl;
@@ -473,31 +400,4 @@ module _ (S : Settings) (now : ℕ) (d : DataPacket) (r : Receiver) (m : Memory)
     };
     lent-waiting = x .ready .lent-waiting;
     lent-pages = pool.lent-none (m .universes);
-  }
-
--- ── the step ──
-module _ (S : Settings) (now : ℕ) (p : Packet) (r : Receiver) (m : Memory) (out : List ℕ) (k : Kept r m) (long : Option ℕ) (l : too-long p ≡ long)
-    (r₁ : Receiver) (m₁ : Memory) (stopped : Bool) (a₁ : StepAnswer) (o : Opens S now long r m out r₁ m₁ stopped a₁) where
-  pub steps-stopped : stopped ≡ true → Steps S now p r m out r₁ m₁ out a₁
-  steps-stopped e = record {
-    released = [];
-    outcome-is = o .ends e p l;
-    written = sym (over-none out);
-    kept = o .kept k;
-    all-left = λ n f. o .all-left n (sym (ap (first-of (too-short (spaceIn m out))) l) ∙ f);
-    lent-waiting = o .lent-waiting;
-    lent-pages = o .lent-pages;
-  }
-
-  pub steps-taken : (r₂ : Receiver) (m₂ : Memory) (out₂ : List ℕ) (a₂ : StepAnswer) → stopped ≡ false → Takes S now p r₁ m₁ out r₂ m₂ out₂ a₂ → Steps S now p r m out r₂ m₂ out₂ a₂
-  steps-taken r₂ m₂ out₂ a₂ e t = record {
-    released = t .released;
-    outcome-is = o .goes-on e p l ∙ t .outcome-is;
-    written = t .written;
-    kept = t .kept (o .kept k);
-    all-left = λ n f.
-        let z = o .fits e in
-        missing n f (ap (λ (x : Option ℕ). first-of x (too-long p)) (z .0) ∙ l ∙ z .1);
-    lent-waiting = lent-then (o .lent-waiting) (t .lent-waiting);
-    lent-pages = pool.lent-then (o .lent-pages) (t .lent-pages);
   }

@@ -1,8 +1,8 @@
 -- The test by cases.
 -- Assumes nothing.
-use Rattle.receiver.specs.Laws.{unwanted-off, unwanted-on}
-use Rattle.receiver.proofs.is_unwanted.Statement.{statement}
-use Rattle.receiver.proofs.is_unwanted.Tie as tie
+use Rattle.taking.specs.Laws.{unwanted-off, unwanted-on}
+use Rattle.taking.proofs.is_unwanted.Statement.{statement}
+use Rattle.taking.proofs.is_unwanted.Tie as tie
 
 returns : tie.Need-returns
 returns c =

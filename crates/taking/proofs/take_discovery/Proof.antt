@@ -1,10 +1,10 @@
 -- What the page's arrival ensures is the step's outcome.
 -- Assumes nothing.
-use Rattle.receiver.specs.View.{with-found}
-use Rattle.receiver.specs.Laws.{takes-discovery}
+use Rattle.receiver.specs.View.{with-discovery-rows}
+use Rattle.taking.specs.Laws.{takes-discovery}
 use borrow.Author.Needs.{needs}
-use Rattle.receiver.proofs.Receiver.take_discovery.Statement.{statement}
-use Rattle.receiver.proofs.Receiver.take_discovery.Tie as tie
+use Rattle.taking.proofs.take_discovery.Statement.{statement}
+use Rattle.taking.proofs.take_discovery.Tie as tie
 
 page-arrives-requires : tie.Need-page-arrives-requires
 page-arrives-requires c κs = search needs
@@ -20,7 +20,7 @@ returns c m out =
     let a = c .before .before .before .before in
     let s = c .before .before .before .before .before .before .before .before .before .before .before .before .before .before .before .before in
     let v = s .args in
-    takes-discovery (v .settings) (v .reading) (v .packet) (v .name .now) (v .list .now) (v .self) (with-found (v .sources .now) (v .names .now) (v .pages .now) (v .universes .now) m) out
+    takes-discovery (v .settings) (v .reading) (v .packet) (v .name .now) (v .list .now) (v .receiver) (with-discovery-rows (v .sources .now) (v .names .now) (v .pages .now) (v .universes .now) m) out
     (a .page-arrives .result) (a .page-arrives .last .1 .0) (a .page-arrives .last .1 .1 .0) (a .page-arrives .last .1 .1 .1 .0) (a .page-arrives .last .1 .1 .1 .1 .0) (c .called-answer .result)
     (s .pre .1) (s .pre .2) (a .page-arrives .ensures) (c .called-answer .ensures .0)
 

@@ -1,12 +1,14 @@
 -- The opening ends the step, or lets the packet be taken.
 -- Assumes nothing.
 use Rattle.model.specs.Packet.{sync-packet}
-use Rattle.steps.specs.View.{syncOf}
+use Rattle.packets.specs.View.{syncOf}
 use Rattle.receiver.specs.View.{memory}
-use Rattle.receiver.specs.Laws.{long-sync, ready-output, ready-held, steps-stopped, steps-taken}
+use Rattle.space.specs.Finds.{long-sync}
+use Rattle.taking.specs.Laws.{ready-output, ready-held}
+use Rattle.handlers.specs.Laws.{steps-stopped, steps-taken}
 use borrow.Author.Needs.{needs}
-use Rattle.receiver.proofs.Receiver.handle_sync_packet.Statement.{statement}
-use Rattle.receiver.proofs.Receiver.handle_sync_packet.Tie as tie
+use Rattle.handlers.proofs.handle_sync_packet.Statement.{statement}
+use Rattle.handlers.proofs.handle_sync_packet.Tie as tie
 
 open-requires : tie.Need-open-requires
 open-requires c κs = search needs
@@ -25,7 +27,7 @@ returns c =
     let p = sync-packet (syncOf (v .packet)) in
     let l = long-sync (syncOf (v .packet)) in
     let x = (o .«open» .ensures (memory (v .data-pairs .now) (v .data-sources .now) (v .sync-pairs .now) (v .sync-sources .now) (v .rows .now) (v .store .now) (v .heard .now) (v .sources .now) (v .names .now) (v .pages .now) (v .universes .now)) (v .sources .now) (v .names .now) (v .pages .now)) in
-    steps-stopped (v .settings) (v .reading) p (v .self) (memory (v .data-pairs .now) (v .data-sources .now) (v .sync-pairs .now) (v .sync-sources .now) (v .rows .now) (v .store .now) (v .heard .now) (v .sources .now) (v .names .now) (v .pages .now) (v .universes .now)) (v .out .now) (s .pre) _ l
+    steps-stopped (v .settings) (v .reading) p (v .receiver) (memory (v .data-pairs .now) (v .data-sources .now) (v .sync-pairs .now) (v .sync-sources .now) (v .rows .now) (v .store .now) (v .heard .now) (v .sources .now) (v .names .now) (v .pages .now) (v .universes .now)) (v .out .now) (s .pre) _ l
     (o .«open» .result .receiver) (memory (o .«open» .last .1 .0) (o .«open» .last .1 .1 .0) (o .«open» .last .1 .1 .1 .0) (o .«open» .last .1 .1 .1 .1 .0) (o .«open» .last .1 .1 .1 .1 .1 .0) (o .«open» .last .1 .1 .1 .1 .1 .1 .0) (v .heard .now) (v .sources .now) (v .names .now) (v .pages .now) (v .universes .now)) _ _ x (c .if1 .taken)
 
 take-sync-requires : tie.Need-take-sync-requires
@@ -54,7 +56,7 @@ returns-2 c =
     let l = long-sync (syncOf (v .packet)) in
     let x = (o .«open» .ensures (memory (v .data-pairs .now) (v .data-sources .now) (v .sync-pairs .now) (v .sync-sources .now) (v .rows .now) (v .store .now) (v .heard .now) (v .sources .now) (v .names .now) (v .pages .now) (v .universes .now)) (v .sources .now) (v .names .now) (v .pages .now)) in
     let t = c .before .before .before .before in
-    steps-taken (v .settings) (v .reading) p (v .self) (memory (v .data-pairs .now) (v .data-sources .now) (v .sync-pairs .now) (v .sync-sources .now) (v .rows .now) (v .store .now) (v .heard .now) (v .sources .now) (v .names .now) (v .pages .now) (v .universes .now)) (v .out .now) (s .pre) _ l
+    steps-taken (v .settings) (v .reading) p (v .receiver) (memory (v .data-pairs .now) (v .data-sources .now) (v .sync-pairs .now) (v .sync-sources .now) (v .rows .now) (v .store .now) (v .heard .now) (v .sources .now) (v .names .now) (v .pages .now) (v .universes .now)) (v .out .now) (s .pre) _ l
     (o .«open» .result .receiver) (memory (o .«open» .last .1 .0) (o .«open» .last .1 .1 .0) (o .«open» .last .1 .1 .1 .0) (o .«open» .last .1 .1 .1 .1 .0) (o .«open» .last .1 .1 .1 .1 .1 .0) (o .«open» .last .1 .1 .1 .1 .1 .1 .0) (v .heard .now) (v .sources .now) (v .names .now) (v .pages .now) (v .universes .now)) _ _ x
     (t .take-sync .result .receiver) (memory (o .«open» .last .1 .0) (o .«open» .last .1 .1 .0) (t .take-sync .last .1 .0) (t .take-sync .last .1 .1 .0) (t .take-sync .last .1 .1 .1 .0) (t .take-sync .last .1 .1 .1 .1 .0) (v .heard .now) (v .sources .now) (v .names .now) (v .pages .now) (v .universes .now)) (t .take-sync .last .1 .1 .1 .1 .1 .1 .1 .1 .1 .0) (t .take-sync .result .answer)
     (c .before .before .before .before .before .before .before .before .before .before .if1 .left) (t .take-sync .ensures (memory (o .«open» .last .1 .0) (o .«open» .last .1 .1 .0) (o .«open» .last .1 .1 .1 .0) (o .«open» .last .1 .1 .1 .1 .0) (o .«open» .last .1 .1 .1 .1 .1 .0) (o .«open» .last .1 .1 .1 .1 .1 .1 .0) (v .heard .now) (v .sources .now) (v .names .now) (v .pages .now) (v .universes .now)))

@@ -1,10 +1,10 @@
 -- Each case has its law.
 -- Assumes nothing.
 use mathlib.Core.Path.{refl}
-use Rattle.receiver.specs.Laws.{called-done, called-long}
+use Rattle.taking.specs.Laws.{called-done, called-long}
 use borrow.Author.Needs.{needs}
-use Rattle.receiver.proofs.called_answer.Statement.{statement}
-use Rattle.receiver.proofs.called_answer.Tie as tie
+use Rattle.taking.proofs.called_answer.Statement.{statement}
+use Rattle.taking.proofs.called_answer.Tie as tie
 
 enum-known-a : tie.Need-enum-known-a
 enum-known-a c = search needs

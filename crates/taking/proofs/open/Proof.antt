@@ -4,11 +4,13 @@ use mathlib.Core.Path.{refl, ap}
 use denote.Enum.Declared.{tagOf}
 use Rattle.space.proofs.Measured as measures
 use Rattle.sequences.specs.View.{lent}
-use Rattle.receiver.specs.View.{longOf, with-numbers, with-held, with-found}
-use Rattle.receiver.specs.Laws.{short-of, not-short, not-long, long-enough, opens-short, opens-long, opens-told, opens-quiet}
+use Rattle.space.specs.Finds.{longOf}
+use Rattle.receiver.specs.View.{with-sequence-rows, with-waiting-rows, with-discovery-rows}
+use Rattle.space.specs.Finds.{short-of, not-short, not-long}
+use Rattle.taking.specs.Laws.{long-enough, opens-short, opens-long, opens-told, opens-quiet}
 use borrow.Author.Needs.{needs}
-use Rattle.receiver.proofs.Receiver.open.Statement.{statement}
-use Rattle.receiver.proofs.Receiver.open.Tie as tie
+use Rattle.taking.proofs.open.Statement.{statement}
+use Rattle.taking.proofs.open.Tie as tie
 
 test-space-requires : tie.Need-test-space-requires
 test-space-requires c κs = search needs
@@ -23,8 +25,8 @@ returns : tie.Need-returns
 returns c m sources names pages =
     let t = c .before .before .before in
     let v = c .before .before .before .before .before .before .before .before .args in
-    opens-short (v .settings) (v .reading) (longOf (v .part)) (v .self)
-    (with-numbers (lent (v .data-pairs .now) (v .data-sources .now) (v .sync-pairs .now) (v .sync-sources .now)) (with-held (v .rows .now) (v .store .now) (with-found sources names pages (v .universes .now) m))) (v .out .now)
+    opens-short (v .settings) (v .reading) (longOf (v .part)) (v .receiver)
+    (with-sequence-rows (lent (v .data-pairs .now) (v .data-sources .now) (v .sync-pairs .now) (v .sync-sources .now)) (with-waiting-rows (v .rows .now) (v .store .now) (with-discovery-rows sources names pages (v .universes .now) m))) (v .out .now)
     (c .before .needed .given .0 .0) (short-of _ _ _ (t .test-space .ensures) (c .before .needed .given .1))
 
 enum-known-part : tie.Need-enum-known-part
@@ -37,8 +39,8 @@ returns-2 : tie.Need-returns-2
 returns-2 c m sources names pages =
     let t = c .before .before .before .before in
     let v = c .before .before .before .before .before .before .before .before .before .args in
-    opens-long (v .settings) (v .reading) (longOf (v .part)) (v .self)
-    (with-numbers (lent (v .data-pairs .now) (v .data-sources .now) (v .sync-pairs .now) (v .sync-sources .now)) (with-held (v .rows .now) (v .store .now) (with-found sources names pages (v .universes .now) m))) (v .out .now)
+    opens-long (v .settings) (v .reading) (longOf (v .part)) (v .receiver)
+    (with-sequence-rows (lent (v .data-pairs .now) (v .data-sources .now) (v .sync-pairs .now) (v .sync-sources .now)) (with-waiting-rows (v .rows .now) (v .store .now) (with-discovery-rows sources names pages (v .universes .now) m))) (v .out .now)
     (c .before .part .given .0 .0) (not-short (tagOf measures.the-type) (λ n. refl) _ _ (t .test-space .ensures) (c .before .before .before .match .keys2)) (ap longOf (c .before .part .given .1))
 
 poll-requires : tie.Need-poll-requires
@@ -62,8 +64,8 @@ returns-3 c m sources names pages =
     let p = c .before .before .before .before .before .before in
     let t = c .before .before .before .before .before .before .before .before .before .before .before .before .before .before .before .before .before .before .before in
     let v = c .before .before .before .before .before .before .before .before .before .before .before .before .before .before .before .before .before .before .before .before .before .before .before .before .args in
-    opens-quiet (v .settings) (v .reading) (longOf (v .part)) (v .self)
-    (with-numbers (lent (v .data-pairs .now) (v .data-sources .now) (v .sync-pairs .now) (v .sync-sources .now)) (with-held (v .rows .now) (v .store .now) (with-found sources names pages (v .universes .now) m))) (v .out .now)
+    opens-quiet (v .settings) (v .reading) (longOf (v .part)) (v .receiver)
+    (with-sequence-rows (lent (v .data-pairs .now) (v .data-sources .now) (v .sync-pairs .now) (v .sync-sources .now)) (with-waiting-rows (v .rows .now) (v .store .now) (with-discovery-rows sources names pages (v .universes .now) m))) (v .out .now)
     (not-short (tagOf measures.the-type) (λ n. refl) _ _ (t .test-space .ensures) (c .before .before .before .before .before .before .before .before .before .before .before .before .before .before .before .before .before .before .match .keys2)) (not-long (tagOf measures.the-type) (λ n. refl) (v .part) (c .before .before .before .before .before .before .before .before .before .before .before .before .before .before .before .before .before .match2 .keys2)) (p .poll .ensures) (c .enum-told .given .1)
 
 same-length-4 : tie.Need-same-length-4
@@ -74,8 +76,8 @@ returns-4 c m sources names pages =
     let p = c .before .before .before .before .before .before .before in
     let t = c .before .before .before .before .before .before .before .before .before .before .before .before .before .before .before .before .before .before .before .before in
     let v = c .before .before .before .before .before .before .before .before .before .before .before .before .before .before .before .before .before .before .before .before .before .before .before .before .before .args in
-    opens-told (v .settings) (v .reading) (longOf (v .part)) (v .self)
-    (with-numbers (lent (v .data-pairs .now) (v .data-sources .now) (v .sync-pairs .now) (v .sync-sources .now)) (with-held (v .rows .now) (v .store .now) (with-found sources names pages (v .universes .now) m))) (v .out .now)
+    opens-told (v .settings) (v .reading) (longOf (v .part)) (v .receiver)
+    (with-sequence-rows (lent (v .data-pairs .now) (v .data-sources .now) (v .sync-pairs .now) (v .sync-sources .now)) (with-waiting-rows (v .rows .now) (v .store .now) (with-discovery-rows sources names pages (v .universes .now) m))) (v .out .now)
     (not-short (tagOf measures.the-type) (λ n. refl) _ _ (t .test-space .ensures) (c .before .before .before .before .before .before .before .before .before .before .before .before .before .before .before .before .before .before .before .match .keys2)) (not-long (tagOf measures.the-type) (λ n. refl) (v .part) (c .before .before .before .before .before .before .before .before .before .before .before .before .before .before .before .before .before .before .match2 .keys2)) (p .poll .ensures) _ _ (c .before .said .given .1)
 
 pub open-spec : {M : Type 1} → statement M

@@ -2,11 +2,14 @@
 -- Assumes nothing.
 use mathlib.Core.Path.{refl, _∙_}
 use Rattle.model.specs.Packet.{discovery-packet}
-use Rattle.receiver.specs.View.{memory, announcementOf}
-use Rattle.receiver.specs.Laws.{long-announcement, name-fits, list-fits, ready-found, steps-stopped, steps-taken}
+use Rattle.receiver.specs.View.{memory}
+use Rattle.packets.specs.View.{announcementOf}
+use Rattle.space.specs.Finds.{long-announcement, name-fits, list-fits}
+use Rattle.taking.specs.Laws.{ready-found}
+use Rattle.handlers.specs.Laws.{steps-stopped, steps-taken}
 use borrow.Author.Needs.{needs}
-use Rattle.receiver.proofs.Receiver.handle_universe_discovery_packet.Statement.{statement}
-use Rattle.receiver.proofs.Receiver.handle_universe_discovery_packet.Tie as tie
+use Rattle.handlers.proofs.handle_universe_discovery_packet.Statement.{statement}
+use Rattle.handlers.proofs.handle_universe_discovery_packet.Tie as tie
 
 test-announcement-requires : tie.Need-test-announcement-requires
 test-announcement-requires c κs = search needs
@@ -28,7 +31,7 @@ returns c =
     let p = discovery-packet (announcementOf (v .packet) (v .name .now) (v .list .now)) in
     let l = long-announcement (announcementOf (v .packet) (v .name .now) (v .list .now)) _ (c .before .before .before .before .before .before .before .before .before .before .before .before .test-announcement .ensures) in
     let x = (o .«open» .ensures (memory (v .data-pairs .now) (v .data-sources .now) (v .sync-pairs .now) (v .sync-sources .now) (v .rows .now) (v .store .now) (v .heard .now) (v .sources .now) (v .names .now) (v .pages .now) (v .universes .now)) (v .sources .now) (v .names .now) (v .pages .now)) in
-    steps-stopped (v .settings) (v .reading) p (v .self) (memory (v .data-pairs .now) (v .data-sources .now) (v .sync-pairs .now) (v .sync-sources .now) (v .rows .now) (v .store .now) (v .heard .now) (v .sources .now) (v .names .now) (v .pages .now) (v .universes .now)) (v .out .now) (s .pre) _ l
+    steps-stopped (v .settings) (v .reading) p (v .receiver) (memory (v .data-pairs .now) (v .data-sources .now) (v .sync-pairs .now) (v .sync-sources .now) (v .rows .now) (v .store .now) (v .heard .now) (v .sources .now) (v .names .now) (v .pages .now) (v .universes .now)) (v .out .now) (s .pre) _ l
     (o .«open» .result .receiver) (memory (o .«open» .last .1 .0) (o .«open» .last .1 .1 .0) (o .«open» .last .1 .1 .1 .0) (o .«open» .last .1 .1 .1 .1 .0) (o .«open» .last .1 .1 .1 .1 .1 .0) (o .«open» .last .1 .1 .1 .1 .1 .1 .0) (v .heard .now) (v .sources .now) (v .names .now) (v .pages .now) (v .universes .now)) _ _ x (c .if1 .taken)
 
 take-discovery-requires : tie.Need-take-discovery-requires
@@ -57,7 +60,7 @@ returns-2 c =
     let l = long-announcement (announcementOf (v .packet) (v .name .now) (v .list .now)) _ (c .before .before .before .before .before .before .before .before .before .before .before .before .before .before .before .before .before .before .before .test-announcement .ensures) in
     let x = (o .«open» .ensures (memory (v .data-pairs .now) (v .data-sources .now) (v .sync-pairs .now) (v .sync-sources .now) (v .rows .now) (v .store .now) (v .heard .now) (v .sources .now) (v .names .now) (v .pages .now) (v .universes .now)) (v .sources .now) (v .names .now) (v .pages .now)) in
     let t = c .before .before in
-    steps-taken (v .settings) (v .reading) p (v .self) (memory (v .data-pairs .now) (v .data-sources .now) (v .sync-pairs .now) (v .sync-sources .now) (v .rows .now) (v .store .now) (v .heard .now) (v .sources .now) (v .names .now) (v .pages .now) (v .universes .now)) (v .out .now) (s .pre) _ l
+    steps-taken (v .settings) (v .reading) p (v .receiver) (memory (v .data-pairs .now) (v .data-sources .now) (v .sync-pairs .now) (v .sync-sources .now) (v .rows .now) (v .store .now) (v .heard .now) (v .sources .now) (v .names .now) (v .pages .now) (v .universes .now)) (v .out .now) (s .pre) _ l
     (o .«open» .result .receiver) (memory (o .«open» .last .1 .0) (o .«open» .last .1 .1 .0) (o .«open» .last .1 .1 .1 .0) (o .«open» .last .1 .1 .1 .1 .0) (o .«open» .last .1 .1 .1 .1 .1 .0) (o .«open» .last .1 .1 .1 .1 .1 .1 .0) (v .heard .now) (v .sources .now) (v .names .now) (v .pages .now) (v .universes .now)) _ _ x
     (t .take-discovery .result .receiver) (memory (o .«open» .last .1 .0) (o .«open» .last .1 .1 .0) (o .«open» .last .1 .1 .1 .0) (o .«open» .last .1 .1 .1 .1 .0) (o .«open» .last .1 .1 .1 .1 .1 .0) (o .«open» .last .1 .1 .1 .1 .1 .1 .0) (v .heard .now) (t .take-discovery .last .1 .0) (t .take-discovery .last .1 .1 .0) (t .take-discovery .last .1 .1 .1 .0) (t .take-discovery .last .1 .1 .1 .1 .0)) (v .out .now) (t .take-discovery .result .answer)
     (c .before .before .before .before .before .before .before .if1 .left) (t .take-discovery .ensures (memory (o .«open» .last .1 .0) (o .«open» .last .1 .1 .0) (o .«open» .last .1 .1 .1 .0) (o .«open» .last .1 .1 .1 .1 .0) (o .«open» .last .1 .1 .1 .1 .1 .0) (o .«open» .last .1 .1 .1 .1 .1 .1 .0) (v .heard .now) (v .sources .now) (v .names .now) (v .pages .now) (v .universes .now)) (v .out .now))

@@ -2,12 +2,14 @@
 -- Assumes nothing.
 use mathlib.Core.Path.{refl, _∙_}
 use Rattle.model.specs.Packet.{data-packet}
-use Rattle.steps.specs.View.{packetOf}
+use Rattle.packets.specs.View.{packetOf}
 use Rattle.receiver.specs.View.{memory}
-use Rattle.receiver.specs.Laws.{long-data, values-fit, ready-output, ready-held, ready-found, steps-stopped, steps-taken}
+use Rattle.space.specs.Finds.{long-data, values-fit}
+use Rattle.taking.specs.Laws.{ready-output, ready-held, ready-found}
+use Rattle.handlers.specs.Laws.{steps-stopped, steps-taken}
 use borrow.Author.Needs.{needs}
-use Rattle.receiver.proofs.Receiver.handle_data_packet.Statement.{statement}
-use Rattle.receiver.proofs.Receiver.handle_data_packet.Tie as tie
+use Rattle.handlers.proofs.handle_data_packet.Statement.{statement}
+use Rattle.handlers.proofs.handle_data_packet.Tie as tie
 
 test-values-requires : tie.Need-test-values-requires
 test-values-requires c κs = search needs
@@ -32,7 +34,7 @@ returns c =
     let p = data-packet (packetOf (v .packet) (v .values .now)) in
     let l = long-data (packetOf (v .packet) (v .values .now)) _ (c .before .before .before .before .before .before .before .before .before .before .before .before .before .test-values .ensures) in
     let x = (o .«open» .ensures (memory (v .data-pairs .now) (v .data-sources .now) (v .sync-pairs .now) (v .sync-sources .now) (v .rows .now) (v .store .now) (v .heard .now) (v .sources .now) (v .names .now) (v .pages .now) (v .universes .now)) (v .sources .now) (v .names .now) (v .pages .now)) in
-    steps-stopped (v .settings) (v .reading) p (v .self) (memory (v .data-pairs .now) (v .data-sources .now) (v .sync-pairs .now) (v .sync-sources .now) (v .rows .now) (v .store .now) (v .heard .now) (v .sources .now) (v .names .now) (v .pages .now) (v .universes .now)) (v .out .now) (s .pre) _ l
+    steps-stopped (v .settings) (v .reading) p (v .receiver) (memory (v .data-pairs .now) (v .data-sources .now) (v .sync-pairs .now) (v .sync-sources .now) (v .rows .now) (v .store .now) (v .heard .now) (v .sources .now) (v .names .now) (v .pages .now) (v .universes .now)) (v .out .now) (s .pre) _ l
     (o .«open» .result .receiver) (memory (o .«open» .last .1 .0) (o .«open» .last .1 .1 .0) (o .«open» .last .1 .1 .1 .0) (o .«open» .last .1 .1 .1 .1 .0) (o .«open» .last .1 .1 .1 .1 .1 .0) (o .«open» .last .1 .1 .1 .1 .1 .1 .0) (v .heard .now) (v .sources .now) (v .names .now) (v .pages .now) (v .universes .now)) _ _ x (c .if1 .taken)
 
 take-data-requires : tie.Need-take-data-requires
@@ -66,7 +68,7 @@ returns-2 c =
     let l = long-data (packetOf (v .packet) (v .values .now)) _ (c .before .before .before .before .before .before .before .before .before .before .before .before .before .before .before .before .before .before .before .before .before .before .before .before .before .before .before .before .before .before .test-values .ensures) in
     let x = (o .«open» .ensures (memory (v .data-pairs .now) (v .data-sources .now) (v .sync-pairs .now) (v .sync-sources .now) (v .rows .now) (v .store .now) (v .heard .now) (v .sources .now) (v .names .now) (v .pages .now) (v .universes .now)) (v .sources .now) (v .names .now) (v .pages .now)) in
     let t = c .before .before .before .before .before .before in
-    steps-taken (v .settings) (v .reading) p (v .self) (memory (v .data-pairs .now) (v .data-sources .now) (v .sync-pairs .now) (v .sync-sources .now) (v .rows .now) (v .store .now) (v .heard .now) (v .sources .now) (v .names .now) (v .pages .now) (v .universes .now)) (v .out .now) (s .pre) _ l
+    steps-taken (v .settings) (v .reading) p (v .receiver) (memory (v .data-pairs .now) (v .data-sources .now) (v .sync-pairs .now) (v .sync-sources .now) (v .rows .now) (v .store .now) (v .heard .now) (v .sources .now) (v .names .now) (v .pages .now) (v .universes .now)) (v .out .now) (s .pre) _ l
     (o .«open» .result .receiver) (memory (o .«open» .last .1 .0) (o .«open» .last .1 .1 .0) (o .«open» .last .1 .1 .1 .0) (o .«open» .last .1 .1 .1 .1 .0) (o .«open» .last .1 .1 .1 .1 .1 .0) (o .«open» .last .1 .1 .1 .1 .1 .1 .0) (v .heard .now) (v .sources .now) (v .names .now) (v .pages .now) (v .universes .now)) _ _ x
     (t .take-data .result .receiver) (memory (t .take-data .last .1 .0) (t .take-data .last .1 .1 .0) (t .take-data .last .1 .1 .1 .0) (t .take-data .last .1 .1 .1 .1 .0) (t .take-data .last .1 .1 .1 .1 .1 .0) (t .take-data .last .1 .1 .1 .1 .1 .1 .0) (t .take-data .last .1 .1 .1 .1 .1 .1 .1 .0) (v .sources .now) (v .names .now) (t .take-data .last .1 .1 .1 .1 .1 .1 .1 .1 .1 .1 .0) (t .take-data .last .1 .1 .1 .1 .1 .1 .1 .1 .1 .1 .1 .0)) (t .take-data .last .1 .1 .1 .1 .1 .1 .1 .1 .1 .1 .1 .1 .1 .1 .1 .1 .0) (t .take-data .result .answer)
     (c .before .before .before .before .before .before .before .before .before .before .before .before .before .before .before .before .before .if1 .left) (t .take-data .ensures)

@@ -1,0 +1,218 @@
+// Document 01, 'The receiver': a step on each kind of packet. The opening ends it, or lets the packet be taken.
+ghost use Rattle.model.specs.Packet.{data-packet, sync-packet, discovery-packet};
+ghost use Rattle.packets.specs.View.{packetOf, syncOf};
+ghost use Rattle.receiver.specs.View.{Kept};
+ghost use Rattle.receiver.specs.Lent.{lent-in, lent};
+ghost use Rattle.packets.specs.View.{announcementOf};
+ghost use Rattle.handlers.specs.View.{Steps};
+use packets::DataPacket;
+use packets::SyncPacket;
+use receiver::Receiver;
+use settings::Settings;
+use space::Measured;
+use space::test_announcement;
+use space::test_values;
+use taking::Handled;
+use taking::open;
+use taking::take_data;
+use taking::take_discovery;
+use taking::take_sync;
+
+// A step on a data packet.
+pub fn handle_data_packet(
+    receiver: Receiver,
+    data_pairs: &mut [[u64; 4]; 1024],
+    data_sources: &mut [[u64; 2]; 1024],
+    sync_pairs: &mut [[u64; 4]; 1024],
+    sync_sources: &mut [[u64; 2]; 1024],
+    rows: &mut [[u64; 9]; 64],
+    store: &mut [u8],
+    heard: &mut [u16; 1024],
+    sources: &[[u64; 6]; 64],
+    names: &[[u8; 63]; 64],
+    pages: &mut [[u64; 5]; 64],
+    universes: &mut [u16],
+    settings: Settings,
+    reading: u64,
+    packet: DataPacket,
+    values: &[u8],
+    out: &mut [u8],
+) -> Handled
+    requires { ⌜ Kept receiver
+        (lent-in «data_pairs» «data_sources» «sync_pairs» «sync_sources» rows store heard sources names pages universes) ⌝ }
+    ensures { λ r.
+        let m = lent «data_pairs» «data_sources» «sync_pairs» «sync_sources» rows store heard sources names pages universes in
+        ⌜ Steps settings reading (data-packet (packetOf packet (now (values .entry))))
+        receiver (m .entry) (now (out .entry)) (r .receiver) (m .exit) (now (out .exit)) (r .answer) ⌝ }
+{
+    let part = test_values(values);
+    let o = open(
+        receiver,
+        &mut *data_pairs,
+        &mut *data_sources,
+        &mut *sync_pairs,
+        &mut *sync_sources,
+        &mut *rows,
+        &mut *store,
+        &*universes,
+        settings,
+        reading,
+        part,
+        &*out,
+    );
+    let opened = o.receiver;
+    if o.stopped {
+        let answer = o.answer;
+        return Handled {
+            receiver: opened,
+            answer: answer,
+        };
+    }
+    take_data(
+        opened,
+        data_pairs,
+        data_sources,
+        sync_pairs,
+        sync_sources,
+        rows,
+        store,
+        heard,
+        sources,
+        names,
+        pages,
+        universes,
+        settings,
+        reading,
+        packet,
+        values,
+        out,
+    )
+}
+
+// A step on a synchronisation packet.
+pub fn handle_sync_packet(
+    receiver: Receiver,
+    data_pairs: &mut [[u64; 4]; 1024],
+    data_sources: &mut [[u64; 2]; 1024],
+    sync_pairs: &mut [[u64; 4]; 1024],
+    sync_sources: &mut [[u64; 2]; 1024],
+    rows: &mut [[u64; 9]; 64],
+    store: &mut [u8],
+    heard: &[u16; 1024],
+    sources: &[[u64; 6]; 64],
+    names: &[[u8; 63]; 64],
+    pages: &[[u64; 5]; 64],
+    universes: &[u16],
+    settings: Settings,
+    reading: u64,
+    packet: SyncPacket,
+    out: &mut [u8],
+) -> Handled
+    requires { ⌜ Kept receiver
+        (lent-in «data_pairs» «data_sources» «sync_pairs» «sync_sources» rows store heard sources names pages universes) ⌝ }
+    ensures { λ r.
+        let m = lent «data_pairs» «data_sources» «sync_pairs» «sync_sources» rows store heard sources names pages universes in
+        ⌜ Steps settings reading (sync-packet (syncOf packet))
+        receiver (m .entry) (now (out .entry)) (r .receiver) (m .exit) (now (out .exit)) (r .answer) ⌝ }
+{
+    let part = Measured::Fits;
+    let o = open(
+        receiver,
+        &mut *data_pairs,
+        &mut *data_sources,
+        &mut *sync_pairs,
+        &mut *sync_sources,
+        &mut *rows,
+        &mut *store,
+        universes,
+        settings,
+        reading,
+        part,
+        &*out,
+    );
+    let opened = o.receiver;
+    if o.stopped {
+        let answer = o.answer;
+        return Handled {
+            receiver: opened,
+            answer: answer,
+        };
+    }
+    take_sync(
+        opened,
+        sync_pairs,
+        sync_sources,
+        rows,
+        store,
+        heard,
+        settings,
+        reading,
+        packet,
+        out,
+    )
+}
+
+// A step on a discovery packet.
+pub fn handle_universe_discovery_packet(
+    receiver: Receiver,
+    data_pairs: &mut [[u64; 4]; 1024],
+    data_sources: &mut [[u64; 2]; 1024],
+    sync_pairs: &mut [[u64; 4]; 1024],
+    sync_sources: &mut [[u64; 2]; 1024],
+    rows: &mut [[u64; 9]; 64],
+    store: &mut [u8],
+    heard: &[u16; 1024],
+    sources: &mut [[u64; 6]; 64],
+    names: &mut [[u8; 63]; 64],
+    pages: &mut [[u64; 5]; 64],
+    universes: &mut [u16],
+    settings: Settings,
+    reading: u64,
+    packet: DiscoveryPacket,
+    name: &[u8],
+    list: &[u16],
+    out: &[u8],
+) -> Handled
+    requires { ⌜ Kept receiver
+        (lent-in «data_pairs» «data_sources» «sync_pairs» «sync_sources» rows store heard sources names pages universes) ⌝ }
+    ensures { λ r.
+        let m = lent «data_pairs» «data_sources» «sync_pairs» «sync_sources» rows store heard sources names pages universes in
+        ⌜ Steps settings reading (discovery-packet (announcementOf packet (now (name .entry)) (now (list .entry))))
+        receiver (m .entry) (now (out .entry)) (r .receiver) (m .exit) (now (out .exit)) (r .answer) ⌝ }
+{
+    let part = test_announcement(name, list);
+    let o = open(
+        receiver,
+        &mut *data_pairs,
+        &mut *data_sources,
+        &mut *sync_pairs,
+        &mut *sync_sources,
+        &mut *rows,
+        &mut *store,
+        &*universes,
+        settings,
+        reading,
+        part,
+        out,
+    );
+    let opened = o.receiver;
+    if o.stopped {
+        let answer = o.answer;
+        return Handled {
+            receiver: opened,
+            answer: answer,
+        };
+    }
+    take_discovery(
+        opened,
+        sources,
+        names,
+        pages,
+        universes,
+        settings,
+        reading,
+        packet,
+        name,
+        list,
+    )
+}

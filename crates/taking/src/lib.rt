@@ -1,0 +1,449 @@
+// Document 01, 'The receiver', the parts of a step: its opening (lengths, then the poll), and what each kind of packet does behind it.
+ghost use mathlib.Core.Path.{_≡_};
+ghost use mathlib.Core.Bool.{not, _&&_};
+ghost use mathlib.Core.List.{List};
+ghost use Prim.Native.Nat.{ℕ, _≤_};
+ghost use lib.ListN.{length};
+ghost use Rattle.waiting.specs.Entries as waiting;
+ghost use Rattle.listening.specs.View as listening;
+ghost use Rattle.sequences.specs.View as sequences;
+ghost use Rattle.discovery.specs.View as discovery;
+ghost use Rattle.pairs.specs.View as pairs;
+ghost use Rattle.model.specs.Packet.{data-packet, sync-packet, discovery-packet};
+ghost use Rattle.model.specs.Step.{listed};
+ghost use Rattle.packets.specs.View.{packetOf, syncOf};
+ghost use Rattle.table.specs.Lent.{untouched};
+ghost use Rattle.receiver.specs.View.{Memory, with-discovery-rows, KeptWaiting, Kept};
+ghost use Rattle.receiver.specs.Lent.{sequences-in, lent, sequences-lent, sync-lent, waiting-lent, listened-lent, discovery-lent};
+ghost use Rattle.waiting.specs.Records.{most-bytes};
+ghost use Rattle.merge.specs.Merge.{most-values};
+ghost use Rattle.discovery.specs.Discovery.{most-name, most-universes};
+ghost use Rattle.packets.specs.View.{announcementOf};
+ghost use Rattle.space.specs.Finds.{longOf};
+ghost use Rattle.taking.specs.View.{courseOf, Opens, Ends, called, Tells, Takes};
+use discovery::PageAnswer;
+use discovery::PageCall;
+use model::StepAnswer;
+use packets::DataPacket;
+use packets::SyncPacket;
+use pairs::SweepAnswer;
+use receiver::Receiver;
+use rules::Cid;
+use sequences::SequenceNumbering;
+use settings::Settings;
+use space::Measured;
+use space::test_space;
+use steps::arrive_data;
+use steps::arrive_sync;
+use steps::poll;
+
+// What a step leaves and answers.
+pub struct Handled {
+    pub receiver: Receiver,
+    pub answer: StepAnswer,
+}
+
+// What lengths and poll leave, and whether they end the step.
+pub struct Opened {
+    pub receiver: Receiver,
+    pub stopped: bool,
+    pub answer: StepAnswer,
+}
+
+// What a page's arrival answers, as the step's answer.
+fn listed_answer(a: PageAnswer, settings: Settings) -> StepAnswer
+    ensures { λ r. ⌜ r ≡ listed settings a ⌝ }
+{
+    match a {
+        PageAnswer::Taken => StepAnswer::Nothing,
+        PageAnswer::Listed => {
+            if settings.announce_source_discovery {
+                return StepAnswer::SourceDiscovered;
+            }
+            StepAnswer::Nothing
+        }
+        PageAnswer::PagesFull => StepAnswer::PagesFull,
+    }
+}
+
+// What the call for a page answers, as the step's answer.
+fn called_answer(a: PageCall, settings: Settings) -> StepAnswer
+    ensures answer { λ r. ⌜ r ≡ called settings a ⌝ }
+    ensures told { λ r. ⌜ Tells a r ⌝ }
+{
+    match a {
+        PageCall::Done(p) => listed_answer(p, settings),
+        PageCall::TooLong(n) => StepAnswer::TooLong(n),
+    }
+}
+
+// Preview data that is not wanted.
+fn is_unwanted(preview: bool, settings: Settings) -> bool
+    ensures { λ r. ⌜ r ≡ preview && not (settings .«process_preview_data») ⌝ }
+{
+    if settings.process_preview_data {
+        return false;
+    }
+    preview
+}
+
+// What is done with a data packet that is wanted.
+enum Course {
+    End,
+    Arrive,
+    Pass,
+}
+
+// A termination is carried out before all else; the sequence is looked at only where the universe is listened to.
+fn course_of(terminated: bool, listening: bool) -> Course
+    ensures { λ r. ⌜ r ≡ courseOf terminated listening ⌝ }
+{
+    if terminated {
+        return Course::End;
+    }
+    if listening {
+        return Course::Arrive;
+    }
+    Course::Pass
+}
+
+// 1 and 2 of a step: lent memory, the packet's own parts, then the poll.
+pub fn open(
+    receiver: Receiver,
+    data_pairs: &mut [[u64; 4]; 1024],
+    data_sources: &mut [[u64; 2]; 1024],
+    sync_pairs: &mut [[u64; 4]; 1024],
+    sync_sources: &mut [[u64; 2]; 1024],
+    rows: &mut [[u64; 9]; 64],
+    store: &mut [u8],
+    universes: &[u16],
+    settings: Settings,
+    reading: u64,
+    part: Measured,
+    out: &[u8],
+) -> Opened
+    requires sequences { ⌜ sequences.Kept (receiver .sequences) (sequences-in «data_pairs» «data_sources» «sync_pairs» «sync_sources») ⌝ }
+    requires waiting { ⌜ KeptWaiting (receiver .waiting .count) (now rows) (now store) ⌝ }
+    ensures { λ r. ⌜ ((rest : Memory) (sources names pages : List (List ℕ)) →
+        let m = sequences-lent «data_pairs» «data_sources» «sync_pairs» «sync_sources» (waiting-lent rows store
+        (untouched (with-discovery-rows sources names pages (now (universes .entry)) rest))) in
+        Opens settings reading (longOf part) receiver (m .entry) (now (out .entry)) (r .receiver) (m .exit) (r .stopped) (r .answer)) ⌝ }
+{
+    if let Measured::TooShort(needed) = test_space(out, &*store, universes) {
+        return Opened {
+            receiver: receiver,
+            stopped: true,
+            answer: StepAnswer::TooShort(needed),
+        };
+    }
+    if let Measured::TooLong(length) = part {
+        return Opened {
+            receiver: receiver,
+            stopped: true,
+            answer: StepAnswer::TooLong(length),
+        };
+    }
+    let q = receiver.sequences;
+    let w = receiver.waiting;
+    let listened = receiver.listened;
+    let discovery = receiver.discovery;
+    let p = poll(
+        q,
+        w,
+        data_pairs,
+        data_sources,
+        sync_pairs,
+        sync_sources,
+        rows,
+        store,
+        settings,
+        reading,
+    );
+    let sequences = p.sequences;
+    let waiting = p.waiting;
+    let said = p.answer;
+    let next = Receiver {
+        sequences,
+        waiting,
+        listened,
+        discovery,
+    };
+    let SweepAnswer::TimedOut(cid, universe) = said else {
+        return Opened {
+            receiver: next,
+            stopped: false,
+            answer: StepAnswer::Nothing,
+        };
+    };
+    Opened {
+        receiver: next,
+        stopped: true,
+        answer: StepAnswer::UniverseTimeout(cid, universe),
+    }
+}
+
+// 4: a synchronisation packet.
+pub fn take_sync(
+    receiver: Receiver,
+    sync_pairs: &mut [[u64; 4]; 1024],
+    sync_sources: &mut [[u64; 2]; 1024],
+    rows: &mut [[u64; 9]; 64],
+    store: &mut [u8],
+    heard: &[u16; 1024],
+    settings: Settings,
+    reading: u64,
+    packet: SyncPacket,
+    out: &mut [u8],
+) -> Handled
+    requires sync { ⌜ pairs.Kept (receiver .sequences .sync .table) (now «sync_pairs») (now «sync_sources») ⌝ }
+    requires waiting { ⌜ waiting.Kept (receiver .waiting .count) (now rows) (now store) ⌝ }
+    requires listened { ⌜ listening.Kept (receiver .listened) (now heard) ⌝ }
+    requires room { ⌜ most-bytes ≤ length (now out) ⌝ }
+    ensures { λ r. ⌜ ((rest : Memory) →
+        let m = sync-lent «sync_pairs» «sync_sources» (waiting-lent rows store (listened-lent heard (untouched rest))) in
+        Takes settings reading (sync-packet (syncOf packet))
+        receiver (m .entry) (now (out .entry)) (r .receiver) (m .exit) (now (out .exit)) (r .answer)) ⌝ }
+{
+    let q = receiver.sequences;
+    let w = receiver.waiting;
+    let listened = receiver.listened;
+    let discovery = receiver.discovery;
+    if listened.is_listening(heard, packet.address) {
+        let data = q.data;
+        let y = q.sync;
+        let a = arrive_sync(
+            y,
+            w,
+            sync_pairs,
+            sync_sources,
+            rows,
+            store,
+            settings,
+            reading,
+            packet,
+            out,
+        );
+        let sync = a.sync;
+        let waiting = a.waiting;
+        let answer = a.answer;
+        let sequences = SequenceNumbering { data, sync };
+        let next = Receiver {
+            sequences,
+            waiting,
+            listened,
+            discovery,
+        };
+        return Handled {
+            receiver: next,
+            answer: answer,
+        };
+    }
+    Handled {
+        receiver: receiver,
+        answer: StepAnswer::Nothing,
+    }
+}
+
+// 5: a discovery packet.
+pub fn take_discovery(
+    receiver: Receiver,
+    sources: &mut [[u64; 6]; 64],
+    names: &mut [[u8; 63]; 64],
+    pages: &mut [[u64; 5]; 64],
+    universes: &mut [u16],
+    settings: Settings,
+    reading: u64,
+    packet: DiscoveryPacket,
+    name: &[u8],
+    list: &[u16],
+) -> Handled
+    requires discovery { ⌜ discovery.Kept (receiver .discovery) (now sources) (now names) (now pages) (now universes) ⌝ }
+    requires name { ⌜ length (now name) ≤ most-name ⌝ }
+    requires list { ⌜ length (now list) ≤ most-universes ⌝ }
+    ensures { λ r. ⌜ ((rest : Memory) (out : List ℕ) →
+        let m = discovery-lent sources names pages universes (untouched rest) in
+        Takes settings reading (discovery-packet (announcementOf packet (now (name .entry)) (now (list .entry))))
+        receiver (m .entry) out (r .receiver) (m .exit) out (r .answer)) ⌝ }
+{
+    let sequences = receiver.sequences;
+    let waiting = receiver.waiting;
+    let listened = receiver.listened;
+    let d = receiver.discovery;
+    let a = d.page_arrives(
+        sources,
+        names,
+        pages,
+        universes,
+        reading,
+        packet.cid,
+        packet.page,
+        packet.last_page,
+        name,
+        list,
+    );
+    let discovery = a.discovery;
+    let said = a.answer;
+    let answer = called_answer(said, settings);
+    let next = Receiver {
+        sequences,
+        waiting,
+        listened,
+        discovery,
+    };
+    Handled {
+        receiver: next,
+        answer: answer,
+    }
+}
+
+// A stream that ends: its pairs go, and its universe from the listed source's pages.
+fn end_stream(
+    receiver: Receiver,
+    data_pairs: &mut [[u64; 4]; 1024],
+    data_sources: &mut [[u64; 2]; 1024],
+    sync_pairs: &mut [[u64; 4]; 1024],
+    sync_sources: &mut [[u64; 2]; 1024],
+    sources: &[[u64; 6]; 64],
+    names: &[[u8; 63]; 64],
+    pages: &mut [[u64; 5]; 64],
+    universes: &mut [u16],
+    cid: Cid,
+    universe: u16,
+) -> Receiver
+    requires sequences { ⌜ sequences.Kept (receiver .sequences) (sequences-in «data_pairs» «data_sources» «sync_pairs» «sync_sources») ⌝ }
+    requires discovery { ⌜ discovery.Kept (receiver .discovery) (now sources) (now names) (now pages) (now universes) ⌝ }
+    ensures { λ r. ⌜ ((rest : Memory) →
+        let m = sequences-lent «data_pairs» «data_sources» «sync_pairs» «sync_sources» (discovery-lent sources names pages universes (untouched rest)) in
+        Ends cid universe receiver (m .entry) r (m .exit)) ⌝ }
+{
+    let q = receiver.sequences;
+    let waiting = receiver.waiting;
+    let listened = receiver.listened;
+    let d = receiver.discovery;
+    let sequences = q.remove_seq_numbers(
+        data_pairs,
+        data_sources,
+        sync_pairs,
+        sync_sources,
+        cid,
+        universe,
+    );
+    let discovery = d.terminate_universe(sources, names, pages, universes, cid, universe);
+    Receiver {
+        sequences,
+        waiting,
+        listened,
+        discovery,
+    }
+}
+
+// 3: a data packet.
+pub fn take_data(
+    receiver: Receiver,
+    data_pairs: &mut [[u64; 4]; 1024],
+    data_sources: &mut [[u64; 2]; 1024],
+    sync_pairs: &mut [[u64; 4]; 1024],
+    sync_sources: &mut [[u64; 2]; 1024],
+    rows: &mut [[u64; 9]; 64],
+    store: &mut [u8],
+    heard: &mut [u16; 1024],
+    sources: &[[u64; 6]; 64],
+    names: &[[u8; 63]; 64],
+    pages: &mut [[u64; 5]; 64],
+    universes: &mut [u16],
+    settings: Settings,
+    reading: u64,
+    packet: DataPacket,
+    values: &[u8],
+    out: &mut [u8],
+) -> Handled
+    requires sequences { ⌜ sequences.Kept (receiver .sequences) (sequences-in «data_pairs» «data_sources» «sync_pairs» «sync_sources») ⌝ }
+    requires waiting { ⌜ waiting.Kept (receiver .waiting .count) (now rows) (now store) ⌝ }
+    requires listened { ⌜ listening.Kept (receiver .listened) (now heard) ⌝ }
+    requires discovery { ⌜ discovery.Kept (receiver .discovery) (now sources) (now names) (now pages) (now universes) ⌝ }
+    requires room { ⌜ most-bytes ≤ length (now out) ⌝ }
+    requires values { ⌜ length (now values) ≤ most-values ⌝ }
+    ensures { λ r.
+        let m = lent «data_pairs» «data_sources» «sync_pairs» «sync_sources» rows store heard sources names pages universes in
+        ⌜ Takes settings reading (data-packet (packetOf packet (now (values .entry))))
+        receiver (m .entry) (now (out .entry)) (r .receiver) (m .exit) (now (out .exit)) (r .answer) ⌝ }
+{
+    if is_unwanted(packet.preview, settings) {
+        return Handled {
+            receiver: receiver,
+            answer: StepAnswer::Nothing,
+        };
+    }
+    let q = receiver.sequences;
+    let w = receiver.waiting;
+    let l = receiver.listened;
+    let discovery = receiver.discovery;
+    let listening = l.is_listening(&*heard, packet.universe);
+    let course = course_of(packet.terminated, listening);
+    match course {
+        Course::End => {
+            let cid = packet.cid;
+            let next = end_stream(
+                receiver,
+                data_pairs,
+                data_sources,
+                sync_pairs,
+                sync_sources,
+                sources,
+                names,
+                pages,
+                universes,
+                cid,
+                packet.universe,
+            );
+            if settings.announce_stream_termination {
+                return Handled {
+                    receiver: next,
+                    answer: StepAnswer::UniverseTerminated(cid, packet.universe),
+                };
+            }
+            Handled {
+                receiver: next,
+                answer: StepAnswer::Nothing,
+            }
+        }
+        Course::Arrive => {
+            let d = q.data;
+            let sync = q.sync;
+            let a = arrive_data(
+                d,
+                w,
+                l,
+                data_pairs,
+                data_sources,
+                rows,
+                store,
+                heard,
+                settings,
+                reading,
+                packet,
+                values,
+                out,
+            );
+            let data = a.data;
+            let waiting = a.waiting;
+            let listened = a.listened;
+            let answer = a.answer;
+            let sequences = SequenceNumbering { data, sync };
+            let next = Receiver {
+                sequences,
+                waiting,
+                listened,
+                discovery,
+            };
+            Handled {
+                receiver: next,
+                answer: answer,
+            }
+        }
+        Course::Pass => Handled {
+            receiver: receiver,
+            answer: StepAnswer::Nothing,
+        },
+    }
+}
