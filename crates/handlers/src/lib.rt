@@ -6,6 +6,7 @@ ghost use Rattle.receiver.specs.Lent.{lent-in, lent};
 ghost use Rattle.packets.specs.View.{announcementOf};
 ghost use Rattle.handlers.specs.View.{Steps};
 use packets::DataPacket;
+use packets::DiscoveryPacket;
 use packets::SyncPacket;
 use receiver::Receiver;
 use settings::Settings;

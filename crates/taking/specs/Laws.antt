@@ -46,7 +46,9 @@ use Rattle.model.specs.State.{State, listens}
 use Rattle.model.specs.Step as model
 use Rattle.model.specs.Step.{Space, outcome, too-short, page-bytes, poll, polled, data-step, terminated, sync-step, discovery-step, listed, packet-step, step}
 use Rattle.steps.specs.View.{Polls, Arrives, Synchronises, rowsOf, lentOf}
+use Rattle.space.specs.Finds.{longOf, room-for, first-none}
 use Rattle.receiver.specs.declared.Receiver.{Receiver}
+use Rattle.receiver.specs.Further.{polled-kept}
 use Rattle.taking.specs.declared.Course.{Course}
 use Rattle.taking.specs.declared.Course.the-variants as course
 use Rattle.packets.specs.declared.DiscoveryPacket.{DiscoveryPacket}

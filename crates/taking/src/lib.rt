@@ -25,6 +25,7 @@ use discovery::PageAnswer;
 use discovery::PageCall;
 use model::StepAnswer;
 use packets::DataPacket;
+use packets::DiscoveryPacket;
 use packets::SyncPacket;
 use pairs::SweepAnswer;
 use receiver::Receiver;
@@ -357,12 +358,11 @@ pub fn take_data(
     values: &[u8],
     out: &mut [u8],
 ) -> Handled
-    requires sequences { ⌜ sequences.Kept (receiver .sequences) (sequences-in «data_pairs» «data_sources» «sync_pairs» «sync_sources») ⌝ }
-    requires waiting { ⌜ waiting.Kept (receiver .waiting .count) (now rows) (now store) ⌝ }
-    requires listened { ⌜ listening.Kept (receiver .listened) (now heard) ⌝ }
-    requires discovery { ⌜ discovery.Kept (receiver .discovery) (now sources) (now names) (now pages) (now universes) ⌝ }
-    requires room { ⌜ most-bytes ≤ length (now out) ⌝ }
-    requires values { ⌜ length (now values) ≤ most-values ⌝ }
+    requires { ⌜ sequences.Kept (receiver .sequences) (sequences-in «data_pairs» «data_sources» «sync_pairs» «sync_sources»)
+        × waiting.Kept (receiver .waiting .count) (now rows) (now store)
+        × listening.Kept (receiver .listened) (now heard)
+        × discovery.Kept (receiver .discovery) (now sources) (now names) (now pages) (now universes)
+        × (most-bytes ≤ length (now out)) × (length (now values) ≤ most-values) ⌝ }
     ensures { λ r.
         let m = lent «data_pairs» «data_sources» «sync_pairs» «sync_sources» rows store heard sources names pages universes in
         ⌜ Takes settings reading (data-packet (packetOf packet (now (values .entry))))

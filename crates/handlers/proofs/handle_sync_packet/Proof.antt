@@ -39,7 +39,7 @@ take-sync-requires c κs =
     let l = long-sync (syncOf (v .packet)) in
     let x = (o .«open» .ensures (memory (v .data-pairs .now) (v .data-sources .now) (v .sync-pairs .now) (v .sync-sources .now) (v .rows .now) (v .store .now) (v .heard .now) (v .sources .now) (v .names .now) (v .pages .now) (v .universes .now)) (v .sources .now) (v .names .now) (v .pages .now)) in
     let e = c .before .before .before .before .before .if1 .left in
-    (x .kept (s .pre) .kept-sequences .kept-sync, ready-held _ _ _ _ _ _ _ _ _ _ (s .pre) x e, x .kept (s .pre) .kept-listened, ready-output _ _ _ _ _ _ _ _ _ _ (s .pre) x e)
+    (x .kept (s .pre) .kept-sequences .kept-sync, (ready-held _ _ _ _ _ _ _ _ _ _ (s .pre) x e, (x .kept (s .pre) .kept-listened, ready-output _ _ _ _ _ _ _ _ _ _ (s .pre) x e)))
 
 same-length-3 : tie.Need-same-length-3
 same-length-3 c = search needs

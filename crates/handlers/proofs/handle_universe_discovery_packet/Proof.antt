@@ -43,7 +43,7 @@ take-discovery-requires c κs =
     let l = long-announcement (announcementOf (v .packet) (v .name .now) (v .list .now)) _ (c .before .before .before .before .before .before .before .before .before .before .before .before .before .before .before .before .test-announcement .ensures) in
     let x = (o .«open» .ensures (memory (v .data-pairs .now) (v .data-sources .now) (v .sync-pairs .now) (v .sync-sources .now) (v .rows .now) (v .store .now) (v .heard .now) (v .sources .now) (v .names .now) (v .pages .now) (v .universes .now)) (v .sources .now) (v .names .now) (v .pages .now)) in
     let e = c .before .before .before .before .if1 .left in
-    (ready-found _ _ _ _ _ _ _ _ _ _ (s .pre) x e refl, name-fits _ (l ∙ x .fits e .1), list-fits _ (l ∙ x .fits e .1))
+    (ready-found _ _ _ _ _ _ _ _ _ _ (s .pre) x e refl, (name-fits _ (l ∙ x .fits e .1), list-fits _ (l ∙ x .fits e .1)))
 
 same-length-3 : tie.Need-same-length-3
 same-length-3 c = search needs

@@ -22,7 +22,7 @@ returns c m out =
     let v = s .args in
     takes-discovery (v .settings) (v .reading) (v .packet) (v .name .now) (v .list .now) (v .receiver) (with-discovery-rows (v .sources .now) (v .names .now) (v .pages .now) (v .universes .now) m) out
     (a .page-arrives .result) (a .page-arrives .last .1 .0) (a .page-arrives .last .1 .1 .0) (a .page-arrives .last .1 .1 .1 .0) (a .page-arrives .last .1 .1 .1 .1 .0) (c .called-answer .result)
-    (s .pre .1) (s .pre .2) (a .page-arrives .ensures) (c .called-answer .ensures .0)
+    (s .pre .1 .0) (s .pre .1 .1) (a .page-arrives .ensures) (c .called-answer .ensures .0)
 
 pub take-discovery-spec : {M : Type 1} → statement M
 take-discovery-spec =
