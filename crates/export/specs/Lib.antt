@@ -1,3 +1,2 @@
-pub mod Boundary
+pub mod Promises
 pub mod Laws
-pub mod Reads

@@ -1,352 +1,46 @@
 // The receiver for programs in C and Rust: headers, settings, packets and answers are structs of numbers, by value; the memory is lent to every call.
 ghost use mathlib.Core.Path.{_≡_};
-ghost use mathlib.Core.List.{List};
-ghost use Prim.Native.Nat.{ℕ, _≤_};
 ghost use lib.ListN.{length};
 ghost use Rattle.settings.specs.Settings.{fresh, withPreview, withDiscovery, withTermination, withTimeout, withMerge, withoutLimit, limited, numberOf};
-ghost use Rattle.waiting.specs.Entries.{store-length};
-ghost use Rattle.waiting.specs.Entries as held;
-ghost use Rattle.waiting.specs.Records.{bit};
-ghost use Rattle.listening.specs.View as hearing;
-ghost use Rattle.sequences.specs.View as numbered;
-ghost use Rattle.discovery.specs.View as found;
+ghost use Rattle.listening.specs.View as listening;
+ghost use Rattle.sequences.specs.View as sequences;
 ghost use Rattle.model.specs.Packet.{data-packet, sync-packet, discovery-packet};
 ghost use Rattle.model.specs.Answer.{pollNumber, pollValues, expiryNumber, expiryValues, listenNumber, listenValues, muteNumber, muteValues, clearNumber, clearValues};
 ghost use Rattle.model.specs.State.{listens};
 ghost use Rattle.model.specs.Calls.{poll-call, expiry-call, listen-call, mute-call, clear-call, clear-all-call, reset-call};
 ghost use Rattle.space.specs.Space.{bytes};
-ghost use Rattle.packets.specs.View.{packetOf, syncOf};
-ghost use Rattle.receiver.specs.View.{Memory, memory, with-sequence-rows, with-waiting-rows, with-listened-rows, with-discovery-rows, stateOf, pool-length, Kept, Begins, Becomes};
-ghost use Rattle.packets.specs.View.{announcementOf};
-ghost use Rattle.export.specs.Boundary.{receiverOf, headerOf, mergeOf, limitOf, settingsOf, packetIn, syncIn, announcedIn, bareOf, oneOf, twoOf, pairOf, sequenceOf, discoveredOf, toldOf, replyOf, polledOf, sweptOf, heardOf, mutedOf, clearedOf, Replies, Answers};
+ghost use Rattle.table.specs.Lent.{untouched};
+ghost use Rattle.receiver.specs.View.{Memory, with-listened-rows, stateOf, KeptWaiting, KeptDiscovery, Kept, Begins, Becomes};
+ghost use Rattle.receiver.specs.Lent.{sequences-in, lent-in, lent, sequences-lent, waiting-lent, listened-lent, discovery-lent};
+ghost use Rattle.boundary.specs.Boundary.{receiverOf, mergeOf, settingsOf, packetIn, syncIn, announcedIn};
+ghost use Rattle.export.specs.Promises.{Replies, Answers};
 
-pub mod reads;
+pub mod read_outs;
 
-use discovery::Discovery;
-use listening::Listened;
-use model::ClearAnswer;
-use model::ExpiryAnswer;
-use model::ListenAnswer;
-use model::MuteAnswer;
-use model::PollAnswer;
-use model::StepAnswer;
-use packets::DataPacket;
-use packets::DiscoveryPacket;
-use packets::SyncPacket;
-use pairs::DataTable;
-use pairs::PairTable;
-use pairs::SyncTable;
+use boundary::Choices;
+use boundary::Data;
+use boundary::Header;
+use boundary::Limited;
+use boundary::Page;
+use boundary::Reply;
+use boundary::Sync;
+use boundary::cleared;
+use boundary::data_of;
+use boundary::discovery_of;
+use boundary::header_of;
+use boundary::heard_answer;
+use boundary::muted;
+use boundary::polled;
+use boundary::receiver_of;
+use boundary::settings_of;
+use boundary::step_reply;
+use boundary::swept;
+use boundary::sync_of;
+use boundary::with_source_limit;
+use handlers::handle_data_packet;
+use handlers::handle_sync_packet;
+use handlers::handle_universe_discovery_packet;
 use receiver::Receiver;
-use rules::Cid;
-use rules::DataSequence;
-use rules::SyncSequence;
-use sequences::SequenceNumbering;
-use settings::MergeChoice;
-use settings::Settings;
-use settings::SourceLimit;
-use taking::Handled;
-use waiting::Waiting;
-
-// The counts and notes of every table.
-#[repr(C)]
-pub struct Header {
-    pub data_pairs: usize,
-    pub data_sources: usize,
-    pub data_oldest: u64,
-    pub sync_pairs: usize,
-    pub sync_sources: usize,
-    pub sync_oldest: u64,
-    pub waiting: usize,
-    pub listened: usize,
-    pub sources: usize,
-    pub pages: usize,
-    pub page_universes: usize,
-    pub data_tidy: bool,
-    pub sync_tidy: bool,
-}
-
-// The settings. Merge is 0 for the choice by priority, any other number for the highest values; a limit of 0 is none.
-#[repr(C)]
-pub struct Choices {
-    pub process_preview_data: bool,
-    pub announce_source_discovery: bool,
-    pub announce_stream_termination: bool,
-    pub announce_timeout: bool,
-    pub merge: u8,
-    pub source_limit: u16,
-}
-
-// A data packet but for its values. A CID is two words, most significant first.
-#[repr(C)]
-pub struct Data {
-    pub hi: u64,
-    pub lo: u64,
-    pub universe: u16,
-    pub address: u16,
-    pub priority: u8,
-    pub sequence: u8,
-    pub preview: bool,
-    pub terminated: bool,
-    pub force_synchronization: bool,
-}
-
-// A synchronisation packet.
-#[repr(C)]
-pub struct Sync {
-    pub hi: u64,
-    pub lo: u64,
-    pub address: u16,
-    pub sequence: u8,
-}
-
-// A discovery packet but for its name and its universes.
-#[repr(C)]
-pub struct Page {
-    pub hi: u64,
-    pub lo: u64,
-    pub page: u8,
-    pub last_page: u8,
-}
-
-// The number of an answer, which values it has, and the values.
-#[repr(C)]
-pub struct Answer {
-    pub first: usize,
-    pub second: usize,
-    pub hi: u64,
-    pub lo: u64,
-    pub number: u8,
-    pub values: u8,
-    pub difference: i8,
-}
-
-#[repr(C)]
-pub struct Reply {
-    pub header: Header,
-    pub answer: Answer,
-}
-
-// What setting the limit leaves and answers.
-#[repr(C)]
-pub struct Limited {
-    pub choices: Choices,
-    pub number: u8,
-}
-
-fn receiver_of(h: Header) -> Receiver
-    ensures { λ r. ⌜ r ≡ receiverOf h ⌝ }
-{
-    let d = PairTable {
-        count: h.data_pairs,
-        source_count: h.data_sources,
-        oldest: h.data_oldest,
-        tidy: h.data_tidy,
-    };
-    let y = PairTable {
-        count: h.sync_pairs,
-        source_count: h.sync_sources,
-        oldest: h.sync_oldest,
-        tidy: h.sync_tidy,
-    };
-    Receiver {
-        sequences: SequenceNumbering {
-            data: DataTable { table: d },
-            sync: SyncTable { table: y },
-        },
-        waiting: Waiting { count: h.waiting },
-        listened: Listened { count: h.listened },
-        discovery: Discovery {
-            source_count: h.sources,
-            page_count: h.pages,
-            used: h.page_universes,
-        },
-    }
-}
-
-fn header_of(r: Receiver) -> Header
-    ensures { λ h. ⌜ h ≡ headerOf r ⌝ }
-{
-    Header {
-        data_pairs: r.sequences.data.table.count,
-        data_sources: r.sequences.data.table.source_count,
-        data_oldest: r.sequences.data.table.oldest,
-        sync_pairs: r.sequences.sync.table.count,
-        sync_sources: r.sequences.sync.table.source_count,
-        sync_oldest: r.sequences.sync.table.oldest,
-        waiting: r.waiting.count,
-        listened: r.listened.count,
-        sources: r.discovery.source_count,
-        pages: r.discovery.page_count,
-        page_universes: r.discovery.used,
-        data_tidy: r.sequences.data.table.tidy,
-        sync_tidy: r.sequences.sync.table.tidy,
-    }
-}
-
-fn merge_of(n: u8) -> MergeChoice
-    ensures { λ r. ⌜ r ≡ mergeOf n ⌝ }
-{
-    if n == 0 {
-        return MergeChoice::DiscardLowestPriorityThenPrevious;
-    }
-    MergeChoice::HtpDmxMerge
-}
-
-fn limit_of(n: u16) -> SourceLimit
-    ensures { λ r. ⌜ r ≡ limitOf n ⌝ }
-{
-    if n == 0 {
-        return SourceLimit::Unlimited;
-    }
-    SourceLimit::AtMost(n)
-}
-
-fn settings_of(c: Choices) -> Settings
-    ensures { λ r. ⌜ r ≡ settingsOf c ⌝ }
-{
-    let merge = merge_of(c.merge);
-    let limit = limit_of(c.source_limit);
-    Settings {
-        process_preview_data: c.process_preview_data,
-        announce_source_discovery: c.announce_source_discovery,
-        announce_stream_termination: c.announce_stream_termination,
-        announce_timeout: c.announce_timeout,
-        merge: merge,
-        source_limit: limit,
-    }
-}
-
-fn data_of(d: Data) -> DataPacket
-    ensures { λ r. ⌜ ((values : List ℕ) → packetOf r values ≡ packetIn d values) ⌝ }
-{
-    DataPacket {
-        cid: Cid { hi: d.hi, lo: d.lo },
-        universe: d.universe,
-        address: d.address,
-        priority: d.priority,
-        sequence: DataSequence(d.sequence),
-        preview: d.preview,
-        terminated: d.terminated,
-        force_synchronization: d.force_synchronization,
-    }
-}
-
-fn bare(number: u8) -> Answer
-    ensures { λ r. ⌜ r ≡ bareOf number ⌝ }
-{
-    Answer {
-        first: 0,
-        second: 0,
-        hi: 0,
-        lo: 0,
-        number: number,
-        values: 0,
-        difference: 0,
-    }
-}
-
-fn one(number: u8, first: usize) -> Answer
-    ensures { λ r. ⌜ r ≡ oneOf number first ⌝ }
-{
-    Answer {
-        first: first,
-        second: 0,
-        hi: 0,
-        lo: 0,
-        number: number,
-        values: 1,
-        difference: 0,
-    }
-}
-
-fn released(records: usize, bytes: usize) -> Answer
-    ensures { λ r. ⌜ r ≡ twoOf 0 records bytes ⌝ }
-{
-    Answer {
-        first: records,
-        second: bytes,
-        hi: 0,
-        lo: 0,
-        number: 0,
-        values: 2,
-        difference: 0,
-    }
-}
-
-fn pair(number: u8, cid: Cid, universe: u16) -> Answer
-    ensures { λ r. ⌜ r ≡ pairOf number cid universe ⌝ }
-{
-    Answer {
-        first: universe as usize,
-        second: 0,
-        hi: cid.hi,
-        lo: cid.lo,
-        number: number,
-        values: 3,
-        difference: 0,
-    }
-}
-
-fn out_of_sequence(arriving: u8, last: u8, difference: i8) -> Answer
-    ensures { λ r. ⌜ r ≡ sequenceOf arriving last difference ⌝ }
-{
-    Answer {
-        first: arriving as usize,
-        second: last as usize,
-        hi: 0,
-        lo: 0,
-        number: 7,
-        values: 4,
-        difference: difference,
-    }
-}
-
-fn discovered() -> Answer
-    ensures { λ r. ⌜ r ≡ discoveredOf ⌝ }
-{
-    Answer {
-        first: 0,
-        second: 0,
-        hi: 0,
-        lo: 0,
-        number: 9,
-        values: 5,
-        difference: 0,
-    }
-}
-
-fn told(a: StepAnswer) -> Answer
-    ensures { λ r. ⌜ r ≡ toldOf a ⌝ }
-{
-    match a {
-        StepAnswer::Nothing => bare(0),
-        StepAnswer::Released(records, bytes) => released(records, bytes),
-        StepAnswer::TooLong(n) => one(1, n),
-        StepAnswer::IllegalUniverse(u) => one(2, u as usize),
-        StepAnswer::UniverseTimeout(c, u) => pair(4, c, u),
-        StepAnswer::UniverseTerminated(c, u) => pair(5, c, u),
-        StepAnswer::SourcesExceeded(n) => one(6, n),
-        StepAnswer::OutOfSequence(a, l, d) => out_of_sequence(a, l, d),
-        StepAnswer::DmxMergeError => bare(8),
-        StepAnswer::SourceDiscovered => discovered(),
-        StepAnswer::PairsFull => bare(10),
-        StepAnswer::ListenedFull => bare(11),
-        StepAnswer::WaitingFull => bare(12),
-        StepAnswer::PagesFull => bare(13),
-        StepAnswer::TooShort(n) => one(15, n),
-        StepAnswer::SourceWithoutPairs => bare(16),
-    }
-}
-
-fn step_reply(h: Handled) -> Reply
-    ensures { λ r. ⌜ r ≡ replyOf h ⌝ }
-{
-    let left = h.receiver;
-    let said = h.answer;
-    let header = header_of(left);
-    let answer = told(said);
-    Reply { header, answer }
-}
 
 // A step on a data packet.
 #[no_mangle]
@@ -369,13 +63,17 @@ pub extern "C" fn tamburelvi_handle_data_packet(
     values: &[u8],
     out: &mut [u8],
 ) -> Reply
-    requires { ⌜ Kept (receiverOf header) (memory (now «data_pairs») (now «data_sources») (now «sync_pairs») (now «sync_sources») (now rows) (now store) (now heard) (now sources) (now names) (now pages) (now universes)) ⌝ }
-    ensures { λ r. ⌜ Replies (settingsOf choices) reading (data-packet (packetIn «data» (now (values .entry)))) header (memory (now («data_pairs» .entry)) (now («data_sources» .entry)) (now («sync_pairs» .entry)) (now («sync_sources» .entry)) (now (rows .entry)) (now (store .entry)) (now (heard .entry)) (now (sources .entry)) (now (names .entry)) (now (pages .entry)) (now (universes .entry))) (now (out .entry)) r (memory (now («data_pairs» .exit)) (now («data_sources» .exit)) (now («sync_pairs» .exit)) (now («sync_sources» .exit)) (now (rows .exit)) (now (store .exit)) (now (heard .exit)) (now (sources .entry)) (now (names .entry)) (now (pages .exit)) (now (universes .exit))) (now (out .exit)) ⌝ }
+    requires { ⌜ Kept (receiverOf header)
+        (lent-in «data_pairs» «data_sources» «sync_pairs» «sync_sources» rows store heard sources names pages universes) ⌝ }
+    ensures { λ r.
+        let m = lent «data_pairs» «data_sources» «sync_pairs» «sync_sources» rows store heard sources names pages universes in
+        ⌜ Replies (settingsOf choices) reading (data-packet (packetIn «data» (now (values .entry)))) header (m .entry) (now (out .entry)) r (m .exit) (now (out .exit)) ⌝ }
 {
     let receiver = receiver_of(header);
     let settings = settings_of(choices);
     let packet = data_of(data);
-    let h = receiver.handle_data_packet(
+    let h = handle_data_packet(
+        receiver,
         data_pairs,
         data_sources,
         sync_pairs,
@@ -394,26 +92,6 @@ pub extern "C" fn tamburelvi_handle_data_packet(
         out,
     );
     step_reply(h)
-}
-
-fn sync_of(y: Sync) -> SyncPacket
-    ensures { λ r. ⌜ syncOf r ≡ syncIn y ⌝ }
-{
-    SyncPacket {
-        cid: Cid { hi: y.hi, lo: y.lo },
-        address: y.address,
-        sequence: SyncSequence(y.sequence),
-    }
-}
-
-fn discovery_of(p: Page) -> DiscoveryPacket
-    ensures { λ r. ⌜ ((name list : List ℕ) → announcementOf r name list ≡ announcedIn p name list) ⌝ }
-{
-    DiscoveryPacket {
-        cid: Cid { hi: p.hi, lo: p.lo },
-        page: p.page,
-        last_page: p.last_page,
-    }
 }
 
 // A step on a synchronisation packet.
@@ -436,13 +114,17 @@ pub extern "C" fn tamburelvi_handle_sync_packet(
     sync: Sync,
     out: &mut [u8],
 ) -> Reply
-    requires { ⌜ Kept (receiverOf header) (memory (now «data_pairs») (now «data_sources») (now «sync_pairs») (now «sync_sources») (now rows) (now store) (now heard) (now sources) (now names) (now pages) (now universes)) ⌝ }
-    ensures { λ r. ⌜ Replies (settingsOf choices) reading (sync-packet (syncIn sync)) header (memory (now («data_pairs» .entry)) (now («data_sources» .entry)) (now («sync_pairs» .entry)) (now («sync_sources» .entry)) (now (rows .entry)) (now (store .entry)) (now (heard .entry)) (now (sources .entry)) (now (names .entry)) (now (pages .entry)) (now (universes .entry))) (now (out .entry)) r (memory (now («data_pairs» .exit)) (now («data_sources» .exit)) (now («sync_pairs» .exit)) (now («sync_sources» .exit)) (now (rows .exit)) (now (store .exit)) (now (heard .entry)) (now (sources .entry)) (now (names .entry)) (now (pages .entry)) (now (universes .entry))) (now (out .exit)) ⌝ }
+    requires { ⌜ Kept (receiverOf header)
+        (lent-in «data_pairs» «data_sources» «sync_pairs» «sync_sources» rows store heard sources names pages universes) ⌝ }
+    ensures { λ r.
+        let m = lent «data_pairs» «data_sources» «sync_pairs» «sync_sources» rows store heard sources names pages universes in
+        ⌜ Replies (settingsOf choices) reading (sync-packet (syncIn sync)) header (m .entry) (now (out .entry)) r (m .exit) (now (out .exit)) ⌝ }
 {
     let receiver = receiver_of(header);
     let settings = settings_of(choices);
     let packet = sync_of(sync);
-    let h = receiver.handle_sync_packet(
+    let h = handle_sync_packet(
+        receiver,
         data_pairs,
         data_sources,
         sync_pairs,
@@ -484,13 +166,17 @@ pub extern "C" fn tamburelvi_handle_universe_discovery_packet(
     list: &[u16],
     out: &[u8],
 ) -> Reply
-    requires { ⌜ Kept (receiverOf header) (memory (now «data_pairs») (now «data_sources») (now «sync_pairs») (now «sync_sources») (now rows) (now store) (now heard) (now sources) (now names) (now pages) (now universes)) ⌝ }
-    ensures { λ r. ⌜ Replies (settingsOf choices) reading (discovery-packet (announcedIn page (now (name .entry)) (now (list .entry)))) header (memory (now («data_pairs» .entry)) (now («data_sources» .entry)) (now («sync_pairs» .entry)) (now («sync_sources» .entry)) (now (rows .entry)) (now (store .entry)) (now (heard .entry)) (now (sources .entry)) (now (names .entry)) (now (pages .entry)) (now (universes .entry))) (now (out .entry)) r (memory (now («data_pairs» .exit)) (now («data_sources» .exit)) (now («sync_pairs» .exit)) (now («sync_sources» .exit)) (now (rows .exit)) (now (store .exit)) (now (heard .entry)) (now (sources .exit)) (now (names .exit)) (now (pages .exit)) (now (universes .exit))) (now (out .entry)) ⌝ }
+    requires { ⌜ Kept (receiverOf header)
+        (lent-in «data_pairs» «data_sources» «sync_pairs» «sync_sources» rows store heard sources names pages universes) ⌝ }
+    ensures { λ r.
+        let m = lent «data_pairs» «data_sources» «sync_pairs» «sync_sources» rows store heard sources names pages universes in
+        ⌜ Replies (settingsOf choices) reading (discovery-packet (announcedIn page (now (name .entry)) (now (list .entry)))) header (m .entry) (now (out .entry)) r (m .exit) (now (out .exit)) ⌝ }
 {
     let receiver = receiver_of(header);
     let settings = settings_of(choices);
     let packet = discovery_of(page);
-    let h = receiver.handle_universe_discovery_packet(
+    let h = handle_universe_discovery_packet(
+        receiver,
         data_pairs,
         data_sources,
         sync_pairs,
@@ -512,66 +198,6 @@ pub extern "C" fn tamburelvi_handle_universe_discovery_packet(
     step_reply(h)
 }
 
-fn polled(a: PollAnswer) -> Answer
-    ensures { λ r. ⌜ r ≡ polledOf a ⌝ }
-{
-    match a {
-        PollAnswer::Polled => bare(0),
-        PollAnswer::UniverseTimeout(c, u) => pair(4, c, u),
-        PollAnswer::TooShort(n) => one(15, n),
-    }
-}
-
-fn swept(a: ExpiryAnswer) -> Answer
-    ensures { λ r. ⌜ r ≡ sweptOf a ⌝ }
-{
-    match a {
-        ExpiryAnswer::Swept => bare(0),
-        ExpiryAnswer::TooShort(n) => one(15, n),
-    }
-}
-
-fn heard_answer(a: ListenAnswer) -> Answer
-    ensures { λ r. ⌜ r ≡ heardOf a ⌝ }
-{
-    match a {
-        ListenAnswer::Listening => bare(0),
-        ListenAnswer::IllegalUniverse(u) => one(2, u as usize),
-        ListenAnswer::ListenedFull => bare(11),
-    }
-}
-
-fn muted(a: MuteAnswer) -> Answer
-    ensures { λ r. ⌜ r ≡ mutedOf a ⌝ }
-{
-    match a {
-        MuteAnswer::Muted => bare(0),
-        MuteAnswer::IllegalUniverse(u) => one(2, u as usize),
-        MuteAnswer::UniverseNotRegistered(u) => one(3, u as usize),
-    }
-}
-
-fn bit_of(b: bool) -> usize
-    ensures { λ r. ⌜ r ≡ bit b ⌝ }
-{
-    if b {
-        return 1;
-    }
-    0
-}
-
-fn cleared(a: ClearAnswer) -> Answer
-    ensures { λ r. ⌜ r ≡ clearedOf a ⌝ }
-{
-    match a {
-        ClearAnswer::Cleared(b) => {
-            let n = bit_of(b);
-            one(0, n)
-        }
-        ClearAnswer::TooShort(n) => one(15, n),
-    }
-}
-
 // The sweeps that a step begins with.
 #[no_mangle]
 pub extern "C" fn tamburelvi_poll(
@@ -585,8 +211,11 @@ pub extern "C" fn tamburelvi_poll(
     choices: Choices,
     reading: u64,
 ) -> Reply
-    requires { ⌜ numbered.Kept (receiverOf header .sequences) (numbered.lent (now «data_pairs») (now «data_sources») (now «sync_pairs») (now «sync_sources»)) × (store-length ≤ length (now store) → held.Kept (receiverOf header .waiting .count) (now rows) (now store)) ⌝ }
-    ensures { λ r. ⌜ ((m : Memory) → Answers (poll-call (length (now (store .entry))) (settingsOf choices) reading) pollNumber pollValues header (with-sequence-rows (numbered.lent (now («data_pairs» .entry)) (now («data_sources» .entry)) (now («sync_pairs» .entry)) (now («sync_sources» .entry))) (with-waiting-rows (now (rows .entry)) (now (store .entry)) m)) r (with-sequence-rows (numbered.lent (now («data_pairs» .exit)) (now («data_sources» .exit)) (now («sync_pairs» .exit)) (now («sync_sources» .exit))) (with-waiting-rows (now (rows .exit)) (now (store .exit)) m))) ⌝ }
+    requires sequences { ⌜ sequences.Kept (receiverOf header .sequences) (sequences-in «data_pairs» «data_sources» «sync_pairs» «sync_sources») ⌝ }
+    requires waiting { ⌜ KeptWaiting (receiverOf header .waiting .count) (now rows) (now store) ⌝ }
+    ensures { λ r. ⌜ ((rest : Memory) →
+        let m = sequences-lent «data_pairs» «data_sources» «sync_pairs» «sync_sources» (waiting-lent rows store (untouched rest)) in
+        Answers (poll-call (length (now (store .entry))) (settingsOf choices) reading) pollNumber pollValues header (m .entry) r (m .exit)) ⌝ }
 {
     let receiver = receiver_of(header);
     let settings = settings_of(choices);
@@ -617,8 +246,10 @@ pub extern "C" fn tamburelvi_remove_expired_sources(
     universes: &mut [u16],
     reading: u64,
 ) -> Reply
-    requires { ⌜ (pool-length ≤ length (now universes) → found.Kept (receiverOf header .discovery) (now sources) (now names) (now pages) (now universes)) ⌝ }
-    ensures { λ r. ⌜ ((m : Memory) → Answers (expiry-call (bytes (now (universes .entry))) reading) expiryNumber expiryValues header (with-discovery-rows (now (sources .entry)) (now (names .entry)) (now (pages .entry)) (now (universes .entry)) m) r (with-discovery-rows (now (sources .exit)) (now (names .exit)) (now (pages .exit)) (now (universes .exit)) m)) ⌝ }
+    requires { ⌜ KeptDiscovery (receiverOf header .discovery) (now sources) (now names) (now pages) (now universes) ⌝ }
+    ensures { λ r. ⌜ ((rest : Memory) →
+        let m = discovery-lent sources names pages universes (untouched rest) in
+        Answers (expiry-call (bytes (now (universes .entry))) reading) expiryNumber expiryValues header (m .entry) r (m .exit)) ⌝ }
 {
     let receiver = receiver_of(header);
     let h = receiver.remove_expired_sources(sources, names, pages, universes, reading);
@@ -636,8 +267,10 @@ pub extern "C" fn tamburelvi_listen_universes(
     heard: &mut [u16; 1024],
     list: &[u16],
 ) -> Reply
-    requires { ⌜ hearing.Kept (receiverOf header .listened) (now heard) ⌝ }
-    ensures { λ r. ⌜ ((m : Memory) → Answers (listen-call (now (list .entry))) listenNumber listenValues header (with-listened-rows (now (heard .entry)) m) r (with-listened-rows (now (heard .exit)) m)) ⌝ }
+    requires { ⌜ listening.Kept (receiverOf header .listened) (now heard) ⌝ }
+    ensures { λ r. ⌜ ((rest : Memory) →
+        let m = listened-lent heard (untouched rest) in
+        Answers (listen-call (now (list .entry))) listenNumber listenValues header (m .entry) r (m .exit)) ⌝ }
 {
     let receiver = receiver_of(header);
     let h = receiver.listen_universes(heard, list);
@@ -655,8 +288,10 @@ pub extern "C" fn tamburelvi_mute_universe(
     heard: &mut [u16; 1024],
     universe: u16,
 ) -> Reply
-    requires { ⌜ hearing.Kept (receiverOf header .listened) (now heard) ⌝ }
-    ensures { λ r. ⌜ ((m : Memory) → Answers (mute-call universe) muteNumber muteValues header (with-listened-rows (now (heard .entry)) m) r (with-listened-rows (now (heard .exit)) m)) ⌝ }
+    requires { ⌜ listening.Kept (receiverOf header .listened) (now heard) ⌝ }
+    ensures { λ r. ⌜ ((rest : Memory) →
+        let m = listened-lent heard (untouched rest) in
+        Answers (mute-call universe) muteNumber muteValues header (m .entry) r (m .exit)) ⌝ }
 {
     let receiver = receiver_of(header);
     let h = receiver.mute_universe(heard, universe);
@@ -675,8 +310,10 @@ pub extern "C" fn tamburelvi_clear_waiting_data(
     store: &mut [u8],
     universe: u16,
 ) -> Reply
-    requires { ⌜ (store-length ≤ length (now store) → held.Kept (receiverOf header .waiting .count) (now rows) (now store)) ⌝ }
-    ensures { λ r. ⌜ ((m : Memory) → Answers (clear-call (length (now (store .entry))) universe) clearNumber clearValues header (with-waiting-rows (now (rows .entry)) (now (store .entry)) m) r (with-waiting-rows (now (rows .exit)) (now (store .exit)) m)) ⌝ }
+    requires { ⌜ KeptWaiting (receiverOf header .waiting .count) (now rows) (now store) ⌝ }
+    ensures { λ r. ⌜ ((rest : Memory) →
+        let m = waiting-lent rows store (untouched rest) in
+        Answers (clear-call (length (now (store .entry))) universe) clearNumber clearValues header (m .entry) r (m .exit)) ⌝ }
 {
     let receiver = receiver_of(header);
     let h = receiver.clear_waiting_data(rows, store, universe);
@@ -703,7 +340,7 @@ pub extern "C" fn tamburelvi_is_listening(
     heard: &[u16; 1024],
     universe: u16,
 ) -> bool
-    requires { ⌜ hearing.Kept (receiverOf header .listened) (now heard) ⌝ }
+    requires { ⌜ listening.Kept (receiverOf header .listened) (now heard) ⌝ }
     ensures { λ r. ⌜ ((m : Memory) → r ≡ listens universe (stateOf (receiverOf header) (with-listened-rows (now (heard .entry)) m) .listened)) ⌝ }
 {
     let receiver = receiver_of(header);
@@ -803,19 +440,9 @@ pub extern "C" fn tamburelvi_clear_source_limit(choices: Choices) -> Choices
 // A limit of 0 gives 14 and changes nothing.
 #[no_mangle]
 pub extern "C" fn tamburelvi_set_source_limit(choices: Choices, limit: u16) -> Limited
-    ensures set { λ r. ⌜ (settingsOf (r .choices) ≡ limited limit (settingsOf choices) .settings) × (r .number ≡ numberOf (limited limit (settingsOf choices) .answer)) ⌝ }
+    ensures set { λ r. ⌜ (settingsOf (r .choices) ≡ limited limit (settingsOf choices) .settings)
+        × (r .number ≡ numberOf (limited limit (settingsOf choices) .answer)) ⌝ }
     ensures left { λ r. ⌜ (r .number ≡ 14 → r .choices ≡ choices) ⌝ }
 {
-    if limit == 0 {
-        return Limited {
-            choices: choices,
-            number: 14,
-        };
-    }
-    let mut c = choices;
-    c.source_limit = limit;
-    Limited {
-        choices: c,
-        number: 0,
-    }
+    with_source_limit(choices, limit)
 }

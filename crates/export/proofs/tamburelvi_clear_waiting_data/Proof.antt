@@ -9,8 +9,9 @@ use Rattle.model.specs.Answer.{clearNumber, clearValues}
 use Rattle.model.specs.Calls.{clear-call}
 use Rattle.receiver.specs.View.{with-waiting-rows}
 use Rattle.receiver.specs.declared.Receiver.{Receiver}
-use Rattle.export.specs.Boundary.{clearedOf}
-use Rattle.export.specs.Laws.{answers, tells-clear}
+use Rattle.boundary.specs.Boundary.{clearedOf}
+use Rattle.export.specs.Laws.{answers}
+use Rattle.boundary.specs.Laws.{tells-clear}
 use borrow.Author.Needs.{needs}
 use Rattle.export.proofs.tamburelvi_clear_waiting_data.Statement.{statement}
 use Rattle.export.proofs.tamburelvi_clear_waiting_data.Tie as tie

@@ -3,7 +3,7 @@
 use mathlib.Core.Path.{ap}
 use Rattle.model.specs.Packet.{discovery-packet}
 use Rattle.receiver.specs.View.{memory}
-use Rattle.export.specs.Boundary.{settingsOf, announcedIn}
+use Rattle.boundary.specs.Boundary.{settingsOf, announcedIn}
 use Rattle.export.specs.Laws.{kept-there, replies}
 use borrow.Author.Needs.{needs}
 use Rattle.export.proofs.tamburelvi_handle_universe_discovery_packet.Statement.{statement}

@@ -6,8 +6,9 @@ use Rattle.model.specs.Answer.{listenNumber, listenValues}
 use Rattle.model.specs.Calls.{listen-call}
 use Rattle.receiver.specs.View.{with-listened-rows}
 use Rattle.receiver.specs.declared.Receiver.{Receiver}
-use Rattle.export.specs.Boundary.{heardOf}
-use Rattle.export.specs.Laws.{answers, tells-listen}
+use Rattle.boundary.specs.Boundary.{heardOf}
+use Rattle.export.specs.Laws.{answers}
+use Rattle.boundary.specs.Laws.{tells-listen}
 use borrow.Author.Needs.{needs}
 use Rattle.export.proofs.tamburelvi_listen_universes.Statement.{statement}
 use Rattle.export.proofs.tamburelvi_listen_universes.Tie as tie

@@ -6,8 +6,9 @@ use Rattle.model.specs.Answer.{muteNumber, muteValues}
 use Rattle.model.specs.Calls.{mute-call}
 use Rattle.receiver.specs.View.{with-listened-rows}
 use Rattle.receiver.specs.declared.Receiver.{Receiver}
-use Rattle.export.specs.Boundary.{mutedOf}
-use Rattle.export.specs.Laws.{answers, tells-mute}
+use Rattle.boundary.specs.Boundary.{mutedOf}
+use Rattle.export.specs.Laws.{answers}
+use Rattle.boundary.specs.Laws.{tells-mute}
 use borrow.Author.Needs.{needs}
 use Rattle.export.proofs.tamburelvi_mute_universe.Statement.{statement}
 use Rattle.export.proofs.tamburelvi_mute_universe.Tie as tie

@@ -12,8 +12,9 @@ use Rattle.model.specs.Answer.{pollNumber, pollValues}
 use Rattle.model.specs.Calls.{poll-call}
 use Rattle.receiver.specs.View.{with-sequence-rows, with-waiting-rows, Does}
 use Rattle.receiver.specs.declared.Receiver.{Receiver}
-use Rattle.export.specs.Boundary.{settingsOf, polledOf}
-use Rattle.export.specs.Laws.{answers, tells-poll}
+use Rattle.boundary.specs.Boundary.{settingsOf, polledOf}
+use Rattle.export.specs.Laws.{answers}
+use Rattle.boundary.specs.Laws.{tells-poll}
 use borrow.Author.Needs.{needs}
 use Rattle.export.proofs.tamburelvi_poll.Statement.{statement}
 use Rattle.export.proofs.tamburelvi_poll.Tie as tie

@@ -9,8 +9,9 @@ use Rattle.model.specs.Answer.{expiryNumber, expiryValues}
 use Rattle.model.specs.Calls.{expiry-call}
 use Rattle.receiver.specs.View.{with-discovery-rows, pool-length}
 use Rattle.receiver.specs.declared.Receiver.{Receiver}
-use Rattle.export.specs.Boundary.{sweptOf}
-use Rattle.export.specs.Laws.{answers, tells-expiry}
+use Rattle.boundary.specs.Boundary.{sweptOf}
+use Rattle.export.specs.Laws.{answers}
+use Rattle.boundary.specs.Laws.{tells-expiry}
 use borrow.Author.Needs.{needs}
 use Rattle.export.proofs.tamburelvi_remove_expired_sources.Statement.{statement}
 use Rattle.export.proofs.tamburelvi_remove_expired_sources.Tie as tie
