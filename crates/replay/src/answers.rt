@@ -78,7 +78,8 @@ fn put_pair(out: &mut [u8], at: usize, n: u64, cid: Cid, universe: u16) -> usize
 // 7 with the arriving number, the last and the difference.
 fn put_sequence(out: &mut [u8], at: usize, arriving: u8, last: u8, difference: i8) -> usize
     requires { ⌜ Ready at (now out) ⌝ }
-    ensures { λ r. ⌜ Tells (answerLine 7 (number arriving ∷ number last ∷ integer difference ∷ [])) (now (out .entry)) at (now (out .exit)) r ⌝ }
+    ensures { λ r. ⌜ Tells (answerLine 7 (number arriving ∷ number last ∷ integer difference ∷ [])) (now (out .entry)) at
+        (now (out .exit)) r ⌝ }
 {
     let a = put_text(&mut *out, at, b"7 ");
     let b = put_decimal(&mut *out, a, arriving as u64);
@@ -115,7 +116,8 @@ fn put_release(out: &mut [u8], at: usize, records: usize, bytes: usize, released
 
 pub fn put_step(out: &mut [u8], at: usize, answer: StepAnswer, own: &[u8], released: &[u8]) -> usize
     requires { ⌜ Ready at (now out) ⌝ }
-    ensures { λ r. ⌜ Tells (stepLine (now (own .entry)) (now (released .entry)) answer) (now (out .entry)) at (now (out .exit)) r ⌝ }
+    ensures { λ r. ⌜ Tells (stepLine (now (own .entry)) (now (released .entry)) answer) (now (out .entry)) at (now (out .exit)) r
+        ⌝ }
 {
     match answer {
         StepAnswer::Nothing => put_number(out, at, 0),

@@ -13,6 +13,7 @@ ghost use Rattle.packets.specs.View.{packetOf, syncOf};
 ghost use Rattle.model.specs.Packet.{data-packet, sync-packet, discovery-packet};
 ghost use Rattle.model.specs.Calls.{poll-call, expiry-call, listen-call, mute-call, clear-call, clear-all-call, reset-call};
 ghost use Rattle.model.specs.Answer.{pollNumber, pollValues, expiryNumber, expiryValues, listenNumber, listenValues, muteNumber, muteValues, clearNumber, clearValues};
+ghost use Rattle.receiver.specs.Lent.{lent, lent-in};
 ghost use Rattle.receiver.specs.View.{Memory, memory, with-sequence-rows, with-waiting-rows, with-listened-rows, with-discovery-rows, stateOf, spaceIn, pool-length, Kept};
 ghost use Rattle.packets.specs.View.{announcementOf};
 ghost use Rattle.replay.specs.Text.{Ready};
@@ -31,6 +32,9 @@ use crate::dump::front_numbers;
 use crate::parse::DataLine;
 use crate::parse::PageLine;
 use crate::parse::SyncLine;
+use handlers::handle_data_packet;
+use handlers::handle_sync_packet;
+use handlers::handle_universe_discovery_packet;
 use receiver::Receiver;
 use settings::Settings;
 
@@ -43,7 +47,8 @@ pub struct Session {
 
 pub fn begin(session: Session, heard: &mut [u16; 1024], out: &mut [u8]) -> Session
     requires { ⌜ (length (now heard) ≡ 1024) × Ready (session .at) (now out) ⌝ }
-    ensures { λ r. ⌜ ((m : Memory) → Carries session m (now (out .entry)) begun r (with-listened-rows (now (heard .exit)) m) (now (out .exit))) ⌝ }
+    ensures { λ r. ⌜ ((m : Memory) → Carries session m (now (out .entry)) begun r (with-listened-rows (now (heard .exit)) m)
+        (now (out .exit))) ⌝ }
 {
     let receiver = Receiver::new(heard);
     let settings = Settings::new();
@@ -58,7 +63,8 @@ pub fn begin(session: Session, heard: &mut [u16; 1024], out: &mut [u8]) -> Sessi
 // The settings are set; nothing can stop it.
 pub fn set(session: Session, settings: Settings, out: &mut [u8]) -> Session
     requires { ⌜ Ready (session .at) (now out) ⌝ }
-    ensures { λ r. ⌜ ((m : Memory) → Carries session m (now (out .entry)) (set-to settings (stateOf (session .receiver) m)) r m (now (out .exit))) ⌝ }
+    ensures { λ r. ⌜ ((m : Memory) → Carries session m (now (out .entry)) (set-to settings (stateOf (session .receiver) m)) r m
+        (now (out .exit))) ⌝ }
 {
     let receiver = session.receiver;
     let at = put_number(out, session.at, 0);
@@ -71,7 +77,8 @@ pub fn set(session: Session, settings: Settings, out: &mut [u8]) -> Session
 
 pub fn set_limit(session: Session, limit: u16, out: &mut [u8]) -> Session
     requires { ⌜ Ready (session .at) (now out) ⌝ }
-    ensures { λ r. ⌜ ((m : Memory) → Carries session m (now (out .entry)) (limited-to limit (session .settings) (stateOf (session .receiver) m)) r m (now (out .exit))) ⌝ }
+    ensures { λ r. ⌜ ((m : Memory) → Carries session m (now (out .entry))
+        (limited-to limit (session .settings) (stateOf (session .receiver) m)) r m (now (out .exit))) ⌝ }
 {
     let receiver = session.receiver;
     let old = session.settings;
@@ -94,7 +101,10 @@ pub fn listen(
     out: &mut [u8],
 ) -> Session
     requires { ⌜ hearing.Kept (session .receiver .listened) (now heard) × Ready (session .at) (now out) ⌝ }
-    ensures { λ r. ⌜ ((m : Memory) → Carries session (with-listened-rows (now (heard .entry)) m) (now (out .entry)) (called (listen-call (take n (now (list .entry)))) listenNumber listenValues (session .settings) (stateOf (session .receiver) (with-listened-rows (now (heard .entry)) m))) r (with-listened-rows (now (heard .exit)) m) (now (out .exit))) ⌝ }
+    ensures { λ r. ⌜ ((m : Memory) → Carries session (with-listened-rows (now (heard .entry)) m) (now (out .entry))
+        (called (listen-call (take n (now (list .entry)))) listenNumber listenValues (session .settings)
+        (stateOf (session .receiver) (with-listened-rows (now (heard .entry)) m))) r (with-listened-rows (now (heard .exit)) m)
+        (now (out .exit))) ⌝ }
 {
     let r = session.receiver;
     let settings = session.settings;
@@ -111,7 +121,10 @@ pub fn listen(
 
 pub fn mute(session: Session, heard: &mut [u16; 1024], universe: u16, out: &mut [u8]) -> Session
     requires { ⌜ hearing.Kept (session .receiver .listened) (now heard) × Ready (session .at) (now out) ⌝ }
-    ensures { λ r. ⌜ ((m : Memory) → Carries session (with-listened-rows (now (heard .entry)) m) (now (out .entry)) (called (mute-call universe) muteNumber muteValues (session .settings) (stateOf (session .receiver) (with-listened-rows (now (heard .entry)) m))) r (with-listened-rows (now (heard .exit)) m) (now (out .exit))) ⌝ }
+    ensures { λ r. ⌜ ((m : Memory) → Carries session (with-listened-rows (now (heard .entry)) m) (now (out .entry))
+        (called (mute-call universe) muteNumber muteValues (session .settings)
+        (stateOf (session .receiver) (with-listened-rows (now (heard .entry)) m))) r (with-listened-rows (now (heard .exit)) m)
+        (now (out .exit))) ⌝ }
 {
     let r = session.receiver;
     let settings = session.settings;
@@ -128,7 +141,9 @@ pub fn mute(session: Session, heard: &mut [u16; 1024], universe: u16, out: &mut 
 
 pub fn ask(session: Session, heard: &[u16; 1024], universe: u16, out: &mut [u8]) -> Session
     requires { ⌜ hearing.Kept (session .receiver .listened) (now heard) × Ready (session .at) (now out) ⌝ }
-    ensures { λ r. ⌜ ((m : Memory) → Carries session (with-listened-rows (now (heard .entry)) m) (now (out .entry)) (asked universe (session .settings) (stateOf (session .receiver) (with-listened-rows (now (heard .entry)) m))) r (with-listened-rows (now (heard .entry)) m) (now (out .exit))) ⌝ }
+    ensures { λ r. ⌜ ((m : Memory) → Carries session (with-listened-rows (now (heard .entry)) m) (now (out .entry))
+        (asked universe (session .settings) (stateOf (session .receiver) (with-listened-rows (now (heard .entry)) m))) r
+        (with-listened-rows (now (heard .entry)) m) (now (out .exit))) ⌝ }
 {
     let receiver = session.receiver;
     let settings = session.settings;
@@ -152,8 +167,19 @@ pub fn poll(
     reading: u64,
     out: &mut [u8],
 ) -> Session
-    requires { ⌜ numbered.Kept (session .receiver .sequences) (numbered.lent (now «data_pairs») (now «data_sources») (now «sync_pairs») (now «sync_sources»)) × (store-length ≤ length (now store) → held.Kept (session .receiver .waiting .count) (now rows) (now store)) × Ready (session .at) (now out) ⌝ }
-    ensures { λ r. ⌜ ((m : Memory) → Carries session (with-sequence-rows (numbered.lent (now («data_pairs» .entry)) (now («data_sources» .entry)) (now («sync_pairs» .entry)) (now («sync_sources» .entry))) (with-waiting-rows (now (rows .entry)) (now (store .entry)) m)) (now (out .entry)) (called (poll-call (length (now (store .entry))) (session .settings) reading) pollNumber pollValues (session .settings) (stateOf (session .receiver) (with-sequence-rows (numbered.lent (now («data_pairs» .entry)) (now («data_sources» .entry)) (now («sync_pairs» .entry)) (now («sync_sources» .entry))) (with-waiting-rows (now (rows .entry)) (now (store .entry)) m)))) r (with-sequence-rows (numbered.lent (now («data_pairs» .exit)) (now («data_sources» .exit)) (now («sync_pairs» .exit)) (now («sync_sources» .exit))) (with-waiting-rows (now (rows .exit)) (now (store .exit)) m)) (now (out .exit))) ⌝ }
+    requires { ⌜ numbered.Kept (session .receiver .sequences)
+        (numbered.lent (now «data_pairs») (now «data_sources») (now «sync_pairs») (now «sync_sources»)) ×
+        (store-length ≤ length (now store) → held.Kept (session .receiver .waiting .count) (now rows) (now store)) × Ready
+        (session .at) (now out) ⌝ }
+    ensures { λ r. ⌜ ((m : Memory) → Carries session
+        (with-sequence-rows (numbered.lent (now («data_pairs» .entry)) (now («data_sources» .entry)) (now («sync_pairs» .entry))
+        (now («sync_sources» .entry))) (with-waiting-rows (now (rows .entry)) (now (store .entry)) m)) (now (out .entry))
+        (called (poll-call (length (now (store .entry))) (session .settings) reading) pollNumber pollValues (session .settings)
+        (stateOf (session .receiver) (with-sequence-rows (numbered.lent (now («data_pairs» .entry)) (now («data_sources» .entry))
+        (now («sync_pairs» .entry)) (now («sync_sources» .entry)))
+        (with-waiting-rows (now (rows .entry)) (now (store .entry)) m)))) r
+        (with-sequence-rows (numbered.lent (now («data_pairs» .exit)) (now («data_sources» .exit)) (now («sync_pairs» .exit))
+        (now («sync_sources» .exit))) (with-waiting-rows (now (rows .exit)) (now (store .exit)) m)) (now (out .exit))) ⌝ }
 {
     let r = session.receiver;
     let settings = session.settings;
@@ -186,8 +212,15 @@ pub fn sweep(
     reading: u64,
     out: &mut [u8],
 ) -> Session
-    requires { ⌜ (pool-length ≤ length (now universes) → found.Kept (session .receiver .discovery) (now sources) (now names) (now pages) (now universes)) × Ready (session .at) (now out) ⌝ }
-    ensures { λ r. ⌜ ((m : Memory) → Carries session (with-discovery-rows (now (sources .entry)) (now (names .entry)) (now (pages .entry)) (now (universes .entry)) m) (now (out .entry)) (called (expiry-call (bytes (now (universes .entry))) reading) expiryNumber expiryValues (session .settings) (stateOf (session .receiver) (with-discovery-rows (now (sources .entry)) (now (names .entry)) (now (pages .entry)) (now (universes .entry)) m))) r (with-discovery-rows (now (sources .exit)) (now (names .exit)) (now (pages .exit)) (now (universes .exit)) m) (now (out .exit))) ⌝ }
+    requires { ⌜ (pool-length ≤ length (now universes) → found.Kept (session .receiver .discovery) (now sources) (now names)
+        (now pages) (now universes)) × Ready (session .at) (now out) ⌝ }
+    ensures { λ r. ⌜ ((m : Memory) → Carries session
+        (with-discovery-rows (now (sources .entry)) (now (names .entry)) (now (pages .entry)) (now (universes .entry)) m)
+        (now (out .entry)) (called (expiry-call (bytes (now (universes .entry))) reading) expiryNumber expiryValues
+        (session .settings) (stateOf (session .receiver) (with-discovery-rows (now (sources .entry)) (now (names .entry))
+        (now (pages .entry)) (now (universes .entry)) m))) r
+        (with-discovery-rows (now (sources .exit)) (now (names .exit)) (now (pages .exit)) (now (universes .exit)) m)
+        (now (out .exit))) ⌝ }
 {
     let r = session.receiver;
     let settings = session.settings;
@@ -209,8 +242,12 @@ pub fn clear(
     universe: u16,
     out: &mut [u8],
 ) -> Session
-    requires { ⌜ (store-length ≤ length (now store) → held.Kept (session .receiver .waiting .count) (now rows) (now store)) × Ready (session .at) (now out) ⌝ }
-    ensures { λ r. ⌜ ((m : Memory) → Carries session (with-waiting-rows (now (rows .entry)) (now (store .entry)) m) (now (out .entry)) (called (clear-call (length (now (store .entry))) universe) clearNumber clearValues (session .settings) (stateOf (session .receiver) (with-waiting-rows (now (rows .entry)) (now (store .entry)) m))) r (with-waiting-rows (now (rows .exit)) (now (store .exit)) m) (now (out .exit))) ⌝ }
+    requires { ⌜ (store-length ≤ length (now store) → held.Kept (session .receiver .waiting .count) (now rows) (now store)) ×
+        Ready (session .at) (now out) ⌝ }
+    ensures { λ r. ⌜ ((m : Memory) → Carries session (with-waiting-rows (now (rows .entry)) (now (store .entry)) m)
+        (now (out .entry)) (called (clear-call (length (now (store .entry))) universe) clearNumber clearValues (session .settings)
+        (stateOf (session .receiver) (with-waiting-rows (now (rows .entry)) (now (store .entry)) m))) r
+        (with-waiting-rows (now (rows .exit)) (now (store .exit)) m) (now (out .exit))) ⌝ }
 {
     let r = session.receiver;
     let settings = session.settings;
@@ -227,7 +264,8 @@ pub fn clear(
 
 pub fn clear_all(session: Session, out: &mut [u8]) -> Session
     requires { ⌜ Ready (session .at) (now out) ⌝ }
-    ensures { λ r. ⌜ ((m : Memory) → Carries session m (now (out .entry)) (changed clear-all-call (session .settings) (stateOf (session .receiver) m)) r m (now (out .exit))) ⌝ }
+    ensures { λ r. ⌜ ((m : Memory) → Carries session m (now (out .entry))
+        (changed clear-all-call (session .settings) (stateOf (session .receiver) m)) r m (now (out .exit))) ⌝ }
 {
     let r = session.receiver;
     let settings = session.settings;
@@ -242,7 +280,8 @@ pub fn clear_all(session: Session, out: &mut [u8]) -> Session
 
 pub fn reset(session: Session, out: &mut [u8]) -> Session
     requires { ⌜ Ready (session .at) (now out) ⌝ }
-    ensures { λ r. ⌜ ((m : Memory) → Carries session m (now (out .entry)) (changed reset-call (session .settings) (stateOf (session .receiver) m)) r m (now (out .exit))) ⌝ }
+    ensures { λ r. ⌜ ((m : Memory) → Carries session m (now (out .entry))
+        (changed reset-call (session .settings) (stateOf (session .receiver) m)) r m (now (out .exit))) ⌝ }
 {
     let r = session.receiver;
     let settings = session.settings;
@@ -273,13 +312,20 @@ pub fn step_data(
     released: &mut [u8],
     out: &mut [u8],
 ) -> Session
-    requires { ⌜ Kept (session .receiver) (memory (now «data_pairs») (now «data_sources») (now «sync_pairs») (now «sync_sources») (now rows) (now store) (now heard) (now sources) (now names) (now pages) (now universes)) × Ready (session .at) (now out) ⌝ }
-    ensures { λ r. ⌜ Carries session (memory (now («data_pairs» .entry)) (now («data_sources» .entry)) (now («sync_pairs» .entry)) (now («sync_sources» .entry)) (now (rows .entry)) (now (store .entry)) (now (heard .entry)) (now (sources .entry)) (now (names .entry)) (now (pages .entry)) (now (universes .entry))) (now (out .entry)) (stepped (spaceIn (memory (now («data_pairs» .entry)) (now («data_sources» .entry)) (now («sync_pairs» .entry)) (now («sync_sources» .entry)) (now (rows .entry)) (now (store .entry)) (now (heard .entry)) (now (sources .entry)) (now (names .entry)) (now (pages .entry)) (now (universes .entry))) (now (released .entry))) (now (released .entry)) [] (line .«now») (data-packet (packetOf (line .packet) (take (line .count) (now («bytes» .entry))))) (session .settings) (stateOf (session .receiver) (memory (now («data_pairs» .entry)) (now («data_sources» .entry)) (now («sync_pairs» .entry)) (now («sync_sources» .entry)) (now (rows .entry)) (now (store .entry)) (now (heard .entry)) (now (sources .entry)) (now (names .entry)) (now (pages .entry)) (now (universes .entry))))) r (memory (now («data_pairs» .exit)) (now («data_sources» .exit)) (now («sync_pairs» .exit)) (now («sync_sources» .exit)) (now (rows .exit)) (now (store .exit)) (now (heard .exit)) (now (sources .entry)) (now (names .entry)) (now (pages .exit)) (now (universes .exit))) (now (out .exit)) ⌝ }
+    requires { ⌜ Kept (session .receiver) (lent-in «data_pairs» «data_sources» «sync_pairs» «sync_sources» rows store heard
+        sources names pages universes) × Ready (session .at) (now out) ⌝ }
+    ensures { λ r.
+        let m = lent «data_pairs» «data_sources» «sync_pairs» «sync_sources» rows store heard sources names pages universes in
+        ⌜ Carries session (m .entry) (now (out .entry))
+        (stepped (spaceIn (m .entry) (now (released .entry))) (now (released .entry)) [] (line .«now»)
+        (data-packet (packetOf (line .packet) (take (line .count) (now («bytes» .entry))))) (session .settings)
+        (stateOf (session .receiver) (m .entry))) r (m .exit) (now (out .exit)) ⌝ }
 {
     let r = session.receiver;
     let settings = session.settings;
     let packet = line.packet;
-    let a = r.handle_data_packet(
+    let a = handle_data_packet(
+        r,
         data_pairs,
         data_sources,
         sync_pairs,
@@ -324,13 +370,20 @@ pub fn step_sync(
     released: &mut [u8],
     out: &mut [u8],
 ) -> Session
-    requires { ⌜ Kept (session .receiver) (memory (now «data_pairs») (now «data_sources») (now «sync_pairs») (now «sync_sources») (now rows) (now store) (now heard) (now sources) (now names) (now pages) (now universes)) × Ready (session .at) (now out) ⌝ }
-    ensures { λ r. ⌜ Carries session (memory (now («data_pairs» .entry)) (now («data_sources» .entry)) (now («sync_pairs» .entry)) (now («sync_sources» .entry)) (now (rows .entry)) (now (store .entry)) (now (heard .entry)) (now (sources .entry)) (now (names .entry)) (now (pages .entry)) (now (universes .entry))) (now (out .entry)) (stepped (spaceIn (memory (now («data_pairs» .entry)) (now («data_sources» .entry)) (now («sync_pairs» .entry)) (now («sync_sources» .entry)) (now (rows .entry)) (now (store .entry)) (now (heard .entry)) (now (sources .entry)) (now (names .entry)) (now (pages .entry)) (now (universes .entry))) (now (released .entry))) (now (released .entry)) [] (line .«now») (sync-packet (syncOf (line .packet))) (session .settings) (stateOf (session .receiver) (memory (now («data_pairs» .entry)) (now («data_sources» .entry)) (now («sync_pairs» .entry)) (now («sync_sources» .entry)) (now (rows .entry)) (now (store .entry)) (now (heard .entry)) (now (sources .entry)) (now (names .entry)) (now (pages .entry)) (now (universes .entry))))) r (memory (now («data_pairs» .exit)) (now («data_sources» .exit)) (now («sync_pairs» .exit)) (now («sync_sources» .exit)) (now (rows .exit)) (now (store .exit)) (now (heard .entry)) (now (sources .entry)) (now (names .entry)) (now (pages .entry)) (now (universes .entry))) (now (out .exit)) ⌝ }
+    requires { ⌜ Kept (session .receiver) (lent-in «data_pairs» «data_sources» «sync_pairs» «sync_sources» rows store heard
+        sources names pages universes) × Ready (session .at) (now out) ⌝ }
+    ensures { λ r.
+        let m = lent «data_pairs» «data_sources» «sync_pairs» «sync_sources» rows store heard sources names pages universes in
+        ⌜ Carries session (m .entry) (now (out .entry))
+        (stepped (spaceIn (m .entry) (now (released .entry))) (now (released .entry)) [] (line .«now»)
+        (sync-packet (syncOf (line .packet))) (session .settings) (stateOf (session .receiver) (m .entry))) r (m .exit)
+        (now (out .exit)) ⌝ }
 {
     let r = session.receiver;
     let settings = session.settings;
     let packet = line.packet;
-    let a = r.handle_sync_packet(
+    let a = handle_sync_packet(
+        r,
         data_pairs,
         data_sources,
         sync_pairs,
@@ -376,14 +429,23 @@ pub fn step_discovery(
     released: &[u8],
     out: &mut [u8],
 ) -> Session
-    requires { ⌜ Kept (session .receiver) (memory (now «data_pairs») (now «data_sources») (now «sync_pairs») (now «sync_sources») (now rows) (now store) (now heard) (now sources) (now names) (now pages) (now universes)) × Ready (session .at) (now out) ⌝ }
-    ensures { λ r. ⌜ Carries session (memory (now («data_pairs» .entry)) (now («data_sources» .entry)) (now («sync_pairs» .entry)) (now («sync_sources» .entry)) (now (rows .entry)) (now (store .entry)) (now (heard .entry)) (now (sources .entry)) (now (names .entry)) (now (pages .entry)) (now (universes .entry))) (now (out .entry)) (stepped (spaceIn (memory (now («data_pairs» .entry)) (now («data_sources» .entry)) (now («sync_pairs» .entry)) (now («sync_sources» .entry)) (now (rows .entry)) (now (store .entry)) (now (heard .entry)) (now (sources .entry)) (now (names .entry)) (now (pages .entry)) (now (universes .entry))) (now (released .entry))) (now (released .entry)) (take (line .name) (now («bytes» .entry))) (line .«now») (discovery-packet (announcementOf (line .packet) (take (line .name) (now («bytes» .entry))) (take (line .count) (now (list .entry))))) (session .settings) (stateOf (session .receiver) (memory (now («data_pairs» .entry)) (now («data_sources» .entry)) (now («sync_pairs» .entry)) (now («sync_sources» .entry)) (now (rows .entry)) (now (store .entry)) (now (heard .entry)) (now (sources .entry)) (now (names .entry)) (now (pages .entry)) (now (universes .entry))))) r (memory (now («data_pairs» .exit)) (now («data_sources» .exit)) (now («sync_pairs» .exit)) (now («sync_sources» .exit)) (now (rows .exit)) (now (store .exit)) (now (heard .entry)) (now (sources .exit)) (now (names .exit)) (now (pages .exit)) (now (universes .exit))) (now (out .exit)) ⌝ }
+    requires { ⌜ Kept (session .receiver) (lent-in «data_pairs» «data_sources» «sync_pairs» «sync_sources» rows store heard
+        sources names pages universes) × Ready (session .at) (now out) ⌝ }
+    ensures { λ r.
+        let m = lent «data_pairs» «data_sources» «sync_pairs» «sync_sources» rows store heard sources names pages universes in
+        ⌜ Carries session (m .entry) (now (out .entry))
+        (stepped (spaceIn (m .entry) (now (released .entry))) (now (released .entry))
+        (take (line .name) (now («bytes» .entry))) (line .«now»)
+        (discovery-packet (announcementOf (line .packet) (take (line .name) (now («bytes» .entry)))
+        (take (line .count) (now (list .entry))))) (session .settings) (stateOf (session .receiver) (m .entry))) r (m .exit)
+        (now (out .exit)) ⌝ }
 {
     let r = session.receiver;
     let settings = session.settings;
     let packet = line.packet;
     let name = front(bytes, line.name);
-    let a = r.handle_universe_discovery_packet(
+    let a = handle_universe_discovery_packet(
+        r,
         data_pairs,
         data_sources,
         sync_pairs,

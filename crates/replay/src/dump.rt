@@ -10,6 +10,7 @@ ghost use Rattle.listening.specs.View.{listenedOf};
 ghost use Rattle.discovery.specs.Rows.{Packing};
 ghost use Rattle.discovery.specs.View as found;
 ghost use Rattle.readouts.specs.Reads.{pages-of, sources-of};
+ghost use Rattle.receiver.specs.Lent.{lent, lent-in};
 ghost use Rattle.receiver.specs.View.{memory, stateOf, Kept, pool-length};
 ghost use Rattle.replay.specs.Text.{Ready, Tells};
 ghost use Rattle.replay.specs.Dump.{lines, spaced, pairLine, cidsText, sourcesLine, tableText, ownerText, waitingLine, listenedLine, pageLine, headLine, sourceText, discoveredText, dumpText};
@@ -123,8 +124,10 @@ pub fn put_table(
     pairs: &[[u64; 4]; 1024],
     sources: &[[u64; 2]; 1024],
 ) -> usize
-    requires { ⌜ Ready at (now out) × (table .count ≤ 1024) × (table .«source_count» ≤ 1024) × (length (now pairs) ≡ 1024) × (length (now sources) ≡ 1024) ⌝ }
-    ensures { λ r. ⌜ Tells (tableText mark (tableOf table (now (pairs .entry)) (now (sources .entry)))) (now (out .entry)) at (now (out .exit)) r ⌝ }
+    requires { ⌜ Ready at (now out) × (table .count ≤ 1024) × (table .«source_count» ≤ 1024) × (length (now pairs) ≡ 1024) ×
+        (length (now sources) ≡ 1024) ⌝ }
+    ensures { λ r. ⌜ Tells (tableText mark (tableOf table (now (pairs .entry)) (now (sources .entry)))) (now (out .entry)) at
+        (now (out .exit)) r ⌝ }
 {
     let a = put_pairs(&mut *out, at, mark, pairs, table.count);
     put_sources_line(&mut *out, a, mark, sources, table.source_count)
@@ -167,7 +170,8 @@ pub fn put_waiting(
     store: &[u8],
 ) -> usize
     requires { ⌜ Ready at (now out) × held.Kept (waiting .count) (now rows) (now store) ⌝ }
-    ensures { λ r. ⌜ Tells (lines waitingLine (waitingOf (waiting .count) (now (rows .entry)) (now (store .entry)))) (now (out .entry)) at (now (out .exit)) r ⌝ }
+    ensures { λ r. ⌜ Tells (lines waitingLine (waitingOf (waiting .count) (now (rows .entry)) (now (store .entry))))
+        (now (out .entry)) at (now (out .exit)) r ⌝ }
 {
     let mut a = at;
     let mut i: usize = 0;
@@ -223,8 +227,10 @@ fn put_page_at(
     pages: &[[u64; 5]; 64],
     universes: &[u16],
 ) -> usize
-    requires { ⌜ Ready at (now out) × Packing (discovery .«page_count») (now pages) (now universes) × (k < length (pages-of mark cid discovery (now pages) (now universes))) ⌝ }
-    ensures { λ r. ⌜ Tells (pageLine letter (getD (pages-of mark cid discovery (now (pages .entry)) (now (universes .entry))) k first-page)) (now (out .entry)) at (now (out .exit)) r ⌝ }
+    requires { ⌜ Ready at (now out) × Packing (discovery .«page_count») (now pages) (now universes) ×
+        (k < length (pages-of mark cid discovery (now pages) (now universes))) ⌝ }
+    ensures { λ r. ⌜ Tells (pageLine letter (getD (pages-of mark cid discovery (now (pages .entry)) (now (universes .entry))) k
+        first-page)) (now (out .entry)) at (now (out .exit)) r ⌝ }
 {
     let r = place_of_page(discovery, pages, mark, cid, k);
     let row = pages[r];
@@ -244,8 +250,10 @@ fn put_pages(
     pages: &[[u64; 5]; 64],
     universes: &[u16],
 ) -> usize
-    requires { ⌜ Ready at (now out) × Packing (discovery .«page_count») (now pages) (now universes) × (total ≡ length (pages-of mark cid discovery (now pages) (now universes))) ⌝ }
-    ensures { λ r. ⌜ Tells (lines (pageLine letter) (pages-of mark cid discovery (now (pages .entry)) (now (universes .entry)))) (now (out .entry)) at (now (out .exit)) r ⌝ }
+    requires { ⌜ Ready at (now out) × Packing (discovery .«page_count») (now pages) (now universes) ×
+        (total ≡ length (pages-of mark cid discovery (now pages) (now universes))) ⌝ }
+    ensures { λ r. ⌜ Tells (lines (pageLine letter) (pages-of mark cid discovery (now (pages .entry)) (now (universes .entry))))
+        (now (out .entry)) at (now (out .exit)) r ⌝ }
 {
     let mut a = at;
     let mut k: usize = 0;
@@ -275,7 +283,8 @@ fn put_head(
     total: usize,
 ) -> usize
     requires { ⌜ Ready at (now out) ⌝ }
-    ensures { λ r. ⌜ Tells (headLine letter (head .cid) (take (head .«name_length») «name_row») (head .«last_page») (head .reading) total) (now (out .entry)) at (now (out .exit)) r ⌝ }
+    ensures { λ r. ⌜ Tells (headLine letter (head .cid) (take (head .«name_length») «name_row») (head .«last_page»)
+        (head .reading) total) (now (out .entry)) at (now (out .exit)) r ⌝ }
 {
     let a = put(&mut *out, at, letter);
     let b = put(&mut *out, a, 32);
@@ -302,8 +311,11 @@ fn put_source_at(
     pages: &[[u64; 5]; 64],
     universes: &[u16],
 ) -> usize
-    requires { ⌜ Ready at (now out) × found.Kept discovery (now sources) (now names) (now pages) (now universes) × (k < length (sources-of mark discovery (now sources) (now names) (now pages) (now universes))) ⌝ }
-    ensures { λ r. ⌜ Tells (sourceText letter (getD (sources-of mark discovery (now (sources .entry)) (now (names .entry)) (now (pages .entry)) (now (universes .entry))) k first-source)) (now (out .entry)) at (now (out .exit)) r ⌝ }
+    requires { ⌜ Ready at (now out) × found.Kept discovery (now sources) (now names) (now pages) (now universes) ×
+        (k < length (sources-of mark discovery (now sources) (now names) (now pages) (now universes))) ⌝ }
+    ensures { λ r. ⌜ Tells (sourceText letter (getD
+        (sources-of mark discovery (now (sources .entry)) (now (names .entry)) (now (pages .entry)) (now (universes .entry))) k
+        first-source)) (now (out .entry)) at (now (out .exit)) r ⌝ }
 {
     let r = source_place(discovery, sources, mark, k);
     let row = sources[r];
@@ -337,8 +349,11 @@ fn put_sources(
     pages: &[[u64; 5]; 64],
     universes: &[u16],
 ) -> usize
-    requires { ⌜ Ready at (now out) × found.Kept discovery (now sources) (now names) (now pages) (now universes) × (count ≡ length (sources-of mark discovery (now sources) (now names) (now pages) (now universes))) ⌝ }
-    ensures { λ r. ⌜ Tells (lines (sourceText letter) (sources-of mark discovery (now (sources .entry)) (now (names .entry)) (now (pages .entry)) (now (universes .entry)))) (now (out .entry)) at (now (out .exit)) r ⌝ }
+    requires { ⌜ Ready at (now out) × found.Kept discovery (now sources) (now names) (now pages) (now universes) ×
+        (count ≡ length (sources-of mark discovery (now sources) (now names) (now pages) (now universes))) ⌝ }
+    ensures { λ r. ⌜ Tells (lines (sourceText letter)
+        (sources-of mark discovery (now (sources .entry)) (now (names .entry)) (now (pages .entry)) (now (universes .entry))))
+        (now (out .entry)) at (now (out .exit)) r ⌝ }
 {
     let mut a = at;
     let mut k: usize = 0;
@@ -371,7 +386,8 @@ fn put_discovered(
     universes: &[u16],
 ) -> usize
     requires { ⌜ Ready at (now out) × found.Kept discovery (now sources) (now names) (now pages) (now universes) ⌝ }
-    ensures { λ r. ⌜ Tells (discoveredText (found.discoveredOf discovery (now (sources .entry)) (now (names .entry)) (now (pages .entry)) (now (universes .entry)))) (now (out .entry)) at (now (out .exit)) r ⌝ }
+    ensures { λ r. ⌜ Tells (discoveredText (found.discoveredOf discovery (now (sources .entry)) (now (names .entry))
+        (now (pages .entry)) (now (universes .entry)))) (now (out .entry)) at (now (out .exit)) r ⌝ }
 {
     let partial = partial_count(discovery, sources);
     let a = put_sources(
@@ -417,8 +433,12 @@ pub fn dump(
     pages: &[[u64; 5]; 64],
     universes: &[u16],
 ) -> usize
-    requires { ⌜ Ready at (now out) × Kept receiver (memory (now «data_pairs») (now «data_sources») (now «sync_pairs») (now «sync_sources») (now rows) (now store) (now heard) (now sources) (now names) (now pages) (now universes)) × (held.store-length ≤ length (now store)) × (pool-length ≤ length (now universes)) ⌝ }
-    ensures { λ r. ⌜ Tells (dumpText (stateOf receiver (memory (now («data_pairs» .entry)) (now («data_sources» .entry)) (now («sync_pairs» .entry)) (now («sync_sources» .entry)) (now (rows .entry)) (now (store .entry)) (now (heard .entry)) (now (sources .entry)) (now (names .entry)) (now (pages .entry)) (now (universes .entry))))) (now (out .entry)) at (now (out .exit)) r ⌝ }
+    requires { ⌜ Ready at (now out) × Kept receiver
+        (lent-in «data_pairs» «data_sources» «sync_pairs» «sync_sources» rows store heard sources names pages universes) ×
+        (held.store-length ≤ length (now store)) × (pool-length ≤ length (now universes)) ⌝ }
+    ensures { λ r.
+        let m = lent «data_pairs» «data_sources» «sync_pairs» «sync_sources» rows store heard sources names pages universes in
+        ⌜ Tells (dumpText (stateOf receiver (m .entry))) (now (out .entry)) at (now (out .exit)) r ⌝ }
 {
     let q = receiver.sequences;
     let data = q.data;

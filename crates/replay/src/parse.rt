@@ -316,7 +316,8 @@ fn past_five(fields: &[u8]) -> &[u8]
 }
 
 fn parse_data(fields: &[u8], bytes: &mut [u8]) -> Command
-    ensures { λ r. ⌜ ((us : List ℕ) → Reads (dataOf (length (now («bytes» .entry))) (now (fields .entry))) r (now («bytes» .exit)) us) ⌝ }
+    ensures { λ r. ⌜ ((us : List ℕ) → Reads (dataOf (length (now («bytes» .entry))) (now (fields .entry))) r (now («bytes» .exit))
+        us) ⌝ }
 {
     let Stamped::Of(stamp) = parse_stamp(fields) else {
         return Command::Error;
@@ -367,7 +368,8 @@ fn parse_sync(fields: &[u8]) -> Command
 }
 
 fn parse_discovery(fields: &[u8], bytes: &mut [u8], list: &mut [u16]) -> Command
-    ensures { λ r. ⌜ Reads (discoveryOf (length (now («bytes» .entry))) (length (now (list .entry))) (now (fields .entry))) r (now («bytes» .exit)) (now (list .exit)) ⌝ }
+    ensures { λ r. ⌜ Reads (discoveryOf (length (now («bytes» .entry))) (length (now (list .entry))) (now (fields .entry))) r
+        (now («bytes» .exit)) (now (list .exit)) ⌝ }
 {
     let Stamped::Of(stamp) = parse_stamp(fields) else {
         return Command::Error;
@@ -443,7 +445,8 @@ fn parse_reading(word: ReadingWord, field: &[u8]) -> Command
 }
 
 fn parse_listen(field: &[u8], list: &mut [u16]) -> Command
-    ensures { λ r. ⌜ ((bs : List ℕ) → Reads (listenOf (length (now (list .entry))) (now (field .entry))) r bs (now (list .exit))) ⌝ }
+    ensures { λ r. ⌜ ((bs : List ℕ) → Reads (listenOf (length (now (list .entry))) (now (field .entry))) r bs (now (list .exit)))
+        ⌝ }
 {
     let Count::Of(n) = parse_list(field, list) else {
         return Command::Error;
@@ -472,7 +475,8 @@ fn parse_lone(word: &[u8]) -> Command
 
 // A word with what stands behind its space.
 fn parse_fields(word: Word, fields: &[u8], bytes: &mut [u8], list: &mut [u16]) -> Command
-    ensures { λ r. ⌜ Reads (fieldsOf (length (now («bytes» .entry))) (length (now (list .entry))) word (now (fields .entry))) r (now («bytes» .exit)) (now (list .exit)) ⌝ }
+    ensures { λ r. ⌜ Reads (fieldsOf (length (now («bytes» .entry))) (length (now (list .entry))) word (now (fields .entry))) r
+        (now («bytes» .exit)) (now (list .exit)) ⌝ }
 {
     match word {
         Word::Unknown => Command::Error,
@@ -489,7 +493,8 @@ fn parse_fields(word: Word, fields: &[u8], bytes: &mut [u8], list: &mut [u16]) -
 }
 
 pub fn parse_line(line: &[u8], bytes: &mut [u8], list: &mut [u16]) -> Command
-    ensures { λ r. ⌜ Reads (lineOf (length (now («bytes» .entry))) (length (now (list .entry))) (now (line .entry))) r (now («bytes» .exit)) (now (list .exit)) ⌝ }
+    ensures { λ r. ⌜ Reads (lineOf (length (now («bytes» .entry))) (length (now (list .entry))) (now (line .entry))) r
+        (now («bytes» .exit)) (now (list .exit)) ⌝ }
 {
     let e = field_end(line, 32);
     if e < line.len() {

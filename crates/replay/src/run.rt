@@ -1,6 +1,7 @@
 // The script line by line.
 ghost use mathlib.Core.Path.{_≡_};
 ghost use lib.ListN.{length};
+ghost use Rattle.receiver.specs.Lent.{lent, lent-in};
 ghost use Rattle.receiver.specs.View.{Memory, memory, stateOf};
 ghost use Rattle.replay.specs.Lines.{silent};
 ghost use Rattle.replay.specs.Text.{Ready};
@@ -38,7 +39,8 @@ const MOST_LINE: usize = 8192;
 
 fn refuse(session: Session, out: &mut [u8]) -> Session
     requires { ⌜ Ready (session .at) (now out) ⌝ }
-    ensures { λ r. ⌜ ((m : Memory) → Carries session m (now (out .entry)) (refused (session .settings) (stateOf (session .receiver) m)) r m (now (out .exit))) ⌝ }
+    ensures { λ r. ⌜ ((m : Memory) → Carries session m (now (out .entry))
+        (refused (session .settings) (stateOf (session .receiver) m)) r m (now (out .exit))) ⌝ }
 {
     let receiver = session.receiver;
     let settings = session.settings;
@@ -52,7 +54,8 @@ fn refuse(session: Session, out: &mut [u8]) -> Session
 
 fn adjust(session: Session, setting: Setting, out: &mut [u8]) -> Session
     requires { ⌜ Ready (session .at) (now out) ⌝ }
-    ensures { λ r. ⌜ ((m : Memory) → Carries session m (now (out .entry)) (adjusted setting (session .settings) (stateOf (session .receiver) m)) r m (now (out .exit))) ⌝ }
+    ensures { λ r. ⌜ ((m : Memory) → Carries session m (now (out .entry))
+        (adjusted setting (session .settings) (stateOf (session .receiver) m)) r m (now (out .exit))) ⌝ }
 {
     let s = session.settings;
     match setting {
@@ -83,8 +86,12 @@ fn show(
     universes: &[u16],
     out: &mut [u8],
 ) -> Session
-    requires { ⌜ Fit (session .receiver) (memory (now «data_pairs») (now «data_sources») (now «sync_pairs») (now «sync_sources») (now rows) (now store) (now heard) (now sources) (now names) (now pages) (now universes)) × Ready (session .at) (now out) ⌝ }
-    ensures { λ r. ⌜ Carries session (memory (now («data_pairs» .entry)) (now («data_sources» .entry)) (now («sync_pairs» .entry)) (now («sync_sources» .entry)) (now (rows .entry)) (now (store .entry)) (now (heard .entry)) (now (sources .entry)) (now (names .entry)) (now (pages .entry)) (now (universes .entry))) (now (out .entry)) (dumped (session .settings) (stateOf (session .receiver) (memory (now («data_pairs» .entry)) (now («data_sources» .entry)) (now («sync_pairs» .entry)) (now («sync_sources» .entry)) (now (rows .entry)) (now (store .entry)) (now (heard .entry)) (now (sources .entry)) (now (names .entry)) (now (pages .entry)) (now (universes .entry))))) r (memory (now («data_pairs» .entry)) (now («data_sources» .entry)) (now («sync_pairs» .entry)) (now («sync_sources» .entry)) (now (rows .entry)) (now (store .entry)) (now (heard .entry)) (now (sources .entry)) (now (names .entry)) (now (pages .entry)) (now (universes .entry))) (now (out .exit)) ⌝ }
+    requires { ⌜ Fit (session .receiver) (lent-in «data_pairs» «data_sources» «sync_pairs» «sync_sources» rows store heard sources
+        names pages universes) × Ready (session .at) (now out) ⌝ }
+    ensures { λ r.
+        let m = lent «data_pairs» «data_sources» «sync_pairs» «sync_sources» rows store heard sources names pages universes in
+        ⌜ Carries session (m .entry) (now (out .entry)) (dumped (session .settings) (stateOf (session .receiver) (m .entry))) r
+        (m .entry) (now (out .exit)) ⌝ }
 {
     let receiver = session.receiver;
     let settings = session.settings;
@@ -130,8 +137,13 @@ fn execute(
     released: &mut [u8],
     out: &mut [u8],
 ) -> Session
-    requires { ⌜ Fit (session .receiver) (memory (now «data_pairs») (now «data_sources») (now «sync_pairs») (now «sync_sources») (now rows) (now store) (now heard) (now sources) (now names) (now pages) (now universes)) × Ready (session .at) (now out) ⌝ }
-    ensures { λ r. ⌜ Carries session (memory (now («data_pairs» .entry)) (now («data_sources» .entry)) (now («sync_pairs» .entry)) (now («sync_sources» .entry)) (now (rows .entry)) (now (store .entry)) (now (heard .entry)) (now (sources .entry)) (now (names .entry)) (now (pages .entry)) (now (universes .entry))) (now (out .entry)) (carried (memory (now («data_pairs» .entry)) (now («data_sources» .entry)) (now («sync_pairs» .entry)) (now («sync_sources» .entry)) (now (rows .entry)) (now (store .entry)) (now (heard .entry)) (now (sources .entry)) (now (names .entry)) (now (pages .entry)) (now (universes .entry))) (now (released .entry)) (now («bytes» .entry)) (now (list .entry)) command (session .settings) (stateOf (session .receiver) (memory (now («data_pairs» .entry)) (now («data_sources» .entry)) (now («sync_pairs» .entry)) (now («sync_sources» .entry)) (now (rows .entry)) (now (store .entry)) (now (heard .entry)) (now (sources .entry)) (now (names .entry)) (now (pages .entry)) (now (universes .entry))))) r (memory (now («data_pairs» .exit)) (now («data_sources» .exit)) (now («sync_pairs» .exit)) (now («sync_sources» .exit)) (now (rows .exit)) (now (store .exit)) (now (heard .exit)) (now (sources .exit)) (now (names .exit)) (now (pages .exit)) (now (universes .exit))) (now (out .exit)) ⌝ }
+    requires { ⌜ Fit (session .receiver) (lent-in «data_pairs» «data_sources» «sync_pairs» «sync_sources» rows store heard sources
+        names pages universes) × Ready (session .at) (now out) ⌝ }
+    ensures { λ r.
+        let m = lent «data_pairs» «data_sources» «sync_pairs» «sync_sources» rows store heard sources names pages universes in
+        ⌜ Carries session (m .entry) (now (out .entry)) (carried (m .entry) (now (released .entry)) (now («bytes» .entry))
+        (now (list .entry)) command (session .settings) (stateOf (session .receiver) (m .entry))) r (m .exit)
+        (now (out .exit)) ⌝ }
 {
     match command {
         Command::Data(line) => step_data(
@@ -258,8 +270,13 @@ fn carry_line(
     released: &mut [u8],
     out: &mut [u8],
 ) -> Session
-    requires { ⌜ Fit (session .receiver) (memory (now «data_pairs») (now «data_sources») (now «sync_pairs») (now «sync_sources») (now rows) (now store) (now heard) (now sources) (now names) (now pages) (now universes)) × Ready (session .at) (now out) ⌝ }
-    ensures { λ r. ⌜ Carries session (memory (now («data_pairs» .entry)) (now («data_sources» .entry)) (now («sync_pairs» .entry)) (now («sync_sources» .entry)) (now (rows .entry)) (now (store .entry)) (now (heard .entry)) (now (sources .entry)) (now (names .entry)) (now (pages .entry)) (now (universes .entry))) (now (out .entry)) (spoken (memory (now («data_pairs» .entry)) (now («data_sources» .entry)) (now («sync_pairs» .entry)) (now («sync_sources» .entry)) (now (rows .entry)) (now (store .entry)) (now (heard .entry)) (now (sources .entry)) (now (names .entry)) (now (pages .entry)) (now (universes .entry))) (now (released .entry)) (length (now («bytes» .entry))) (length (now (list .entry))) long (now (line .entry)) (session .settings) (stateOf (session .receiver) (memory (now («data_pairs» .entry)) (now («data_sources» .entry)) (now («sync_pairs» .entry)) (now («sync_sources» .entry)) (now (rows .entry)) (now (store .entry)) (now (heard .entry)) (now (sources .entry)) (now (names .entry)) (now (pages .entry)) (now (universes .entry))))) r (memory (now («data_pairs» .exit)) (now («data_sources» .exit)) (now («sync_pairs» .exit)) (now («sync_sources» .exit)) (now (rows .exit)) (now (store .exit)) (now (heard .exit)) (now (sources .exit)) (now (names .exit)) (now (pages .exit)) (now (universes .exit))) (now (out .exit)) ⌝ }
+    requires { ⌜ Fit (session .receiver) (lent-in «data_pairs» «data_sources» «sync_pairs» «sync_sources» rows store heard sources
+        names pages universes) × Ready (session .at) (now out) ⌝ }
+    ensures { λ r.
+        let m = lent «data_pairs» «data_sources» «sync_pairs» «sync_sources» rows store heard sources names pages universes in
+        ⌜ Carries session (m .entry) (now (out .entry)) (spoken (m .entry) (now (released .entry)) (length (now («bytes» .entry)))
+        (length (now (list .entry))) long (now (line .entry)) (session .settings) (stateOf (session .receiver) (m .entry))) r
+        (m .exit) (now (out .exit)) ⌝ }
 {
     if is_silent(line) {
         return session;
@@ -317,8 +334,11 @@ fn take_line(
     released: &mut [u8],
     out: &mut [u8],
 ) -> Turn
-    requires { ⌜ Runs session input (memory (now «data_pairs») (now «data_sources») (now «sync_pairs») (now «sync_sources») (now rows) (now store) (now heard) (now sources) (now names) (now pages) (now universes)) (now chunk) (now out) ⌝ }
-    ensures { λ r. ⌜ Runs (r .session) (r .input) (memory (now («data_pairs» .exit)) (now («data_sources» .exit)) (now («sync_pairs» .exit)) (now («sync_sources» .exit)) (now (rows .exit)) (now (store .exit)) (now (heard .exit)) (now (sources .exit)) (now (names .exit)) (now (pages .exit)) (now (universes .exit))) (now (chunk .exit)) (now (out .exit)) ⌝ }
+    requires { ⌜ Runs session input (lent-in «data_pairs» «data_sources» «sync_pairs» «sync_sources» rows store heard sources
+        names pages universes) (now chunk) (now out) ⌝ }
+    ensures { λ r.
+        let m = lent «data_pairs» «data_sources» «sync_pairs» «sync_sources» rows store heard sources names pages universes in
+        ⌜ Runs (r .session) (r .input) (m .exit) (now (chunk .exit)) (now (out .exit)) ⌝ }
 {
     let line = next_line(input, &mut *chunk, &mut *text);
     let next = line.input;
@@ -400,7 +420,8 @@ pub fn run(
     released: &mut [u8],
     out: &mut [u8],
 )
-    requires { ⌜ Fit (session .receiver) (memory (now «data_pairs») (now «data_sources») (now «sync_pairs») (now «sync_sources») (now rows) (now store) (now heard) (now sources) (now names) (now pages) (now universes)) × Ready (session .at) (now out) ⌝ }
+    requires { ⌜ Fit (session .receiver) (lent-in «data_pairs» «data_sources» «sync_pairs» «sync_sources» rows store heard sources
+        names pages universes) × Ready (session .at) (now out) ⌝ }
 {
     let first = Input::new();
     let mut t = Turn {
