@@ -9,12 +9,14 @@ use Rattle.table.specs.Cases.{split, found, clash}
 use Rattle.rules.specs.declared.Cid.{Cid}
 use Rattle.pairs.specs.declared.Pair.{Pair}
 use Rattle.pairs.specs.declared.SweepAnswer.{SweepAnswer}
-use Rattle.pairs.specs.declared.DataTable.{DataTable}
-use Rattle.pairs.specs.declared.SyncTable.{SyncTable}
+use Rattle.pair_tables.specs.declared.DataTable.{DataTable}
+use Rattle.pair_tables.specs.declared.SyncTable.{SyncTable}
 use Rattle.pairs.specs.declared.SweepAnswer.the-variants.{Quiet, TimedOut}
 use Rattle.pairs.specs.Table.{Table, Key, key, pairAt, sweep, without, unknown}
-use Rattle.pairs.specs.View as pairs
-use Rattle.pairs.specs.View.{Rows, tableOf, answerOf, removal}
+use Rattle.pair_tables.specs.View as pairs
+use Rattle.pairs.specs.Answers.{answerOf}
+use Rattle.pair_rows.specs.View.{Rows}
+use Rattle.pair_tables.specs.View.{tableOf, removal}
 use Rattle.sequences.specs.declared.SequenceNumbering.{SequenceNumbering}
 use Rattle.sequences.specs.Sequences.{Numbers, numbers, timeouts, timeouts-data, timeouts-sync, removed}
 use Rattle.sequences.specs.View.{Lent, lent, dataOf, syncOf, numbersOf, Kept, Follows, Unmoved, answered}

@@ -7,8 +7,10 @@ use Prim.Native.Nat.{ℕ}
 use lib.ListN.{length}
 use Rattle.pairs.specs.declared.SweepAnswer.{SweepAnswer}
 use Rattle.pairs.specs.Table.{Table, Key, empty}
-use Rattle.pairs.specs.View as pairs
-use Rattle.pairs.specs.View.{Rows, tableOf, answerOf}
+use Rattle.pair_tables.specs.View as pairs
+use Rattle.pairs.specs.Answers.{answerOf}
+use Rattle.pair_rows.specs.View.{Rows}
+use Rattle.pair_tables.specs.View.{tableOf}
 use Rattle.sequences.specs.declared.SequenceNumbering.{SequenceNumbering}
 use Rattle.sequences.specs.Sequences.{Numbers, numbers}
 

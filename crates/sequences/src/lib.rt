@@ -5,9 +5,9 @@ ghost use lib.ListN.{length};
 ghost use Rattle.pairs.specs.Table.{key};
 ghost use Rattle.sequences.specs.Sequences.{timeouts, removed};
 ghost use Rattle.sequences.specs.View.{lent, numbersOf, Kept, Follows, Unmoved, Emptied, answered};
-use pairs::DataTable;
+use pair_tables::DataTable;
+use pair_tables::SyncTable;
 use pairs::SweepAnswer;
-use pairs::SyncTable;
 use rules::Cid;
 
 pub struct SequenceNumbering {
