@@ -1,3 +1,4 @@
 pub mod Table
 pub mod Answers
 pub mod Laws
+pub mod Trials
