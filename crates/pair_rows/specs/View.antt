@@ -17,7 +17,7 @@ use Rattle.pair_rows.specs.declared.Found.{Found}
 use Rattle.pair_rows.specs.declared.Found.the-variants.{At, Nothing}
 use Rattle.pairs.specs.declared.SweepAnswer.{SweepAnswer}
 use Rattle.pairs.specs.declared.SweepAnswer.the-variants.{Quiet, TimedOut}
-use Rattle.pairs.specs.Table.{Key, keyOf, key-before, itself, pairAt, has}
+use Rattle.pairs.specs.Table.{Key, keyOf, key-before, itself, capacity, pairAt, has}
 
 abbrev pub Rows : Type 0
 Rows = List (List ℕ)
@@ -87,9 +87,9 @@ noteOf (some p) = TimedOut (p .cid) (p .universe)
 
 -- what the walk along pairs and sources requires
 pub record Walkable (n : ℕ) (pairs : Rows) (m : ℕ) (sources : Rows) : Type 0 where
-  pub n-fits : n ≤ 1024
-  pub pairs-room : length pairs ≡ 1024
-  pub m-fits : m ≤ 1024
-  pub sources-room : length sources ≡ 1024
+  pub n-fits : n ≤ capacity
+  pub pairs-room : length pairs ≡ capacity
+  pub m-fits : m ≤ capacity
+  pub sources-room : length sources ≡ capacity
   pub pairs-ascend : Ascending key-before keyOf (pairsOf n pairs)
   pub sources-ascend : Ascending before itself (sourcesOf m sources)

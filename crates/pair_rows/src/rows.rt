@@ -4,11 +4,16 @@ ghost use mathlib.Core.List.{[]};
 ghost use Prim.Native.Nat.{_+_, _-_, _≤_, _<_};
 ghost use lib.ListN.{length, take, getD, set};
 ghost use Rattle.table.specs.Place.{insertAt, removeAt};
+ghost use Rattle.pairs.specs.Table.{capacity};
 ghost use Rattle.pair_rows.specs.View.{cidOf, pairOf};
+use crate::PairRow;
+use crate::PairRows;
+use crate::SourceRow;
+use crate::SourceRows;
 use pairs::Pair;
 use rules::Cid;
 
-pub fn cid_of(row: [u64; 2]) -> Cid
+pub fn cid_of(row: SourceRow) -> Cid
     ensures { λ r. ⌜ r ≡ cidOf row ⌝ }
 {
     Cid {
@@ -17,13 +22,13 @@ pub fn cid_of(row: [u64; 2]) -> Cid
     }
 }
 
-pub fn source_row(cid: Cid) -> [u64; 2]
+pub fn source_row(cid: Cid) -> SourceRow
     ensures { λ r. ⌜ cidOf r ≡ cid ⌝ }
 {
     [cid.hi, cid.lo]
 }
 
-pub fn pair_of(row: [u64; 4]) -> Pair
+pub fn pair_of(row: PairRow) -> Pair
     ensures { λ r. ⌜ r ≡ pairOf row ⌝ }
 {
     let cid = Cid {
@@ -38,7 +43,7 @@ pub fn pair_of(row: [u64; 4]) -> Pair
     }
 }
 
-pub fn pair_row(pair: Pair) -> [u64; 4]
+pub fn pair_row(pair: Pair) -> PairRow
     ensures { λ r. ⌜ pairOf r ≡ pair ⌝ }
 {
     [
@@ -50,9 +55,9 @@ pub fn pair_row(pair: Pair) -> [u64; 4]
 }
 
 // One row more, before place at.
-pub fn insert_pair(pairs: &mut [[u64; 4]; 1024], n: usize, at: usize, row: [u64; 4])
-    requires { ⌜ (n < 1024) × (at ≤ n) × (length (now pairs) ≡ 1024) ⌝ }
-    ensures { λ r. ⌜ (length (now (pairs .exit)) ≡ 1024) × (take (n + 1) (now (pairs .exit)) ≡ insertAt at row (take n (now (pairs .entry)))) ⌝ }
+pub fn insert_pair(pairs: &mut PairRows, n: usize, at: usize, row: PairRow)
+    requires { ⌜ (n < capacity) × (at ≤ n) × (length (now pairs) ≡ capacity) ⌝ }
+    ensures { λ r. ⌜ (length (now (pairs .exit)) ≡ capacity) × (take (n + 1) (now (pairs .exit)) ≡ insertAt at row (take n (now (pairs .entry)))) ⌝ }
 {
     let mut carried = row;
     let mut i = at;
@@ -65,9 +70,9 @@ pub fn insert_pair(pairs: &mut [[u64; 4]; 1024], n: usize, at: usize, row: [u64;
     pairs[n] = carried;
 }
 
-pub fn insert_source(sources: &mut [[u64; 2]; 1024], n: usize, at: usize, row: [u64; 2])
-    requires { ⌜ (n < 1024) × (at ≤ n) × (length (now sources) ≡ 1024) ⌝ }
-    ensures { λ r. ⌜ (length (now (sources .exit)) ≡ 1024) × (take (n + 1) (now (sources .exit)) ≡ insertAt at row (take n (now (sources .entry)))) ⌝ }
+pub fn insert_source(sources: &mut SourceRows, n: usize, at: usize, row: SourceRow)
+    requires { ⌜ (n < capacity) × (at ≤ n) × (length (now sources) ≡ capacity) ⌝ }
+    ensures { λ r. ⌜ (length (now (sources .exit)) ≡ capacity) × (take (n + 1) (now (sources .exit)) ≡ insertAt at row (take n (now (sources .entry)))) ⌝ }
 {
     let mut carried = row;
     let mut i = at;
@@ -81,9 +86,9 @@ pub fn insert_source(sources: &mut [[u64; 2]; 1024], n: usize, at: usize, row: [
 }
 
 // The row at place at taken out of the first n.
-pub fn remove_pair(pairs: &mut [[u64; 4]; 1024], n: usize, at: usize)
-    requires { ⌜ (n ≤ 1024) × (at < n) × (length (now pairs) ≡ 1024) ⌝ }
-    ensures { λ r. ⌜ (length (now (pairs .exit)) ≡ 1024) × (take (n - 1) (now (pairs .exit)) ≡ removeAt at (take n (now (pairs .entry)))) ⌝ }
+pub fn remove_pair(pairs: &mut PairRows, n: usize, at: usize)
+    requires { ⌜ (n ≤ capacity) × (at < n) × (length (now pairs) ≡ capacity) ⌝ }
+    ensures { λ r. ⌜ (length (now (pairs .exit)) ≡ capacity) × (take (n - 1) (now (pairs .exit)) ≡ removeAt at (take n (now (pairs .entry)))) ⌝ }
 {
     let last = n - 1;
     let mut to = at;
@@ -94,9 +99,9 @@ pub fn remove_pair(pairs: &mut [[u64; 4]; 1024], n: usize, at: usize)
     }
 }
 
-pub fn remove_source(sources: &mut [[u64; 2]; 1024], n: usize, at: usize)
-    requires { ⌜ (n ≤ 1024) × (at < n) × (length (now sources) ≡ 1024) ⌝ }
-    ensures { λ r. ⌜ (length (now (sources .exit)) ≡ 1024) × (take (n - 1) (now (sources .exit)) ≡ removeAt at (take n (now (sources .entry)))) ⌝ }
+pub fn remove_source(sources: &mut SourceRows, n: usize, at: usize)
+    requires { ⌜ (n ≤ capacity) × (at < n) × (length (now sources) ≡ capacity) ⌝ }
+    ensures { λ r. ⌜ (length (now (sources .exit)) ≡ capacity) × (take (n - 1) (now (sources .exit)) ≡ removeAt at (take n (now (sources .entry)))) ⌝ }
 {
     let last = n - 1;
     let mut to = at;
@@ -108,8 +113,8 @@ pub fn remove_source(sources: &mut [[u64; 2]; 1024], n: usize, at: usize)
 }
 
 // The row of place from put at place to, unless it stands there.
-pub fn move_pair(pairs: &mut [[u64; 4]; 1024], from: usize, to: usize)
-    requires { ⌜ (from < 1024) × (to ≤ from) × (length (now pairs) ≡ 1024) ⌝ }
+pub fn move_pair(pairs: &mut PairRows, from: usize, to: usize)
+    requires { ⌜ (from < capacity) × (to ≤ from) × (length (now pairs) ≡ capacity) ⌝ }
     ensures { λ r. ⌜ now (pairs .exit) ≡ set (now (pairs .entry)) to (getD (now (pairs .entry)) from []) ⌝ }
 {
     if to < from {
@@ -118,8 +123,8 @@ pub fn move_pair(pairs: &mut [[u64; 4]; 1024], from: usize, to: usize)
     }
 }
 
-pub fn move_source(sources: &mut [[u64; 2]; 1024], from: usize, to: usize)
-    requires { ⌜ (from < 1024) × (to ≤ from) × (length (now sources) ≡ 1024) ⌝ }
+pub fn move_source(sources: &mut SourceRows, from: usize, to: usize)
+    requires { ⌜ (from < capacity) × (to ≤ from) × (length (now sources) ≡ capacity) ⌝ }
     ensures { λ r. ⌜ now (sources .exit) ≡ set (now (sources .entry)) to (getD (now (sources .entry)) from []) ⌝ }
 {
     if to < from {

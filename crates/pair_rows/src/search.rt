@@ -4,9 +4,11 @@ ghost use Prim.Native.Nat.{_+_, _≤_, min};
 ghost use lib.ListN.{length, take, drop};
 ghost use Rattle.table.specs.Place.{place, prefix};
 ghost use Rattle.rules.specs.Cid.{before};
-ghost use Rattle.pairs.specs.Table.{key, keyOf, key-before, itself, has};
+ghost use Rattle.pairs.specs.Table.{capacity, key, keyOf, key-before, itself, has};
 ghost use Rattle.pair_rows.specs.View.{pairsOf, sourcesOf, same-key, lower, last-reading, sourceAt, row-before};
 use crate::Found;
+use crate::PairRows;
+use crate::SourceRows;
 use crate::rows::cid_of;
 use crate::rows::pair_of;
 use pairs::Pair;
@@ -36,8 +38,8 @@ pub fn same_key(pair: Pair, cid: Cid, universe: u16) -> bool
 }
 
 // How many pairs stand before the key.
-pub fn place_of(pairs: &[[u64; 4]; 1024], n: usize, cid: Cid, universe: u16) -> usize
-    requires { ⌜ (n ≤ 1024) × (length (now pairs) ≡ 1024) ⌝ }
+pub fn place_of(pairs: &PairRows, n: usize, cid: Cid, universe: u16) -> usize
+    requires { ⌜ (n ≤ capacity) × (length (now pairs) ≡ capacity) ⌝ }
     ensures { λ r. ⌜ (r ≤ n) × (r ≡ place key-before keyOf (key cid universe) (pairsOf n (now (pairs .entry)))) ⌝ }
 {
     let mut i: usize = 0;
@@ -54,8 +56,8 @@ pub fn place_of(pairs: &[[u64; 4]; 1024], n: usize, cid: Cid, universe: u16) -> 
 }
 
 // How many CIDs stand before this one.
-pub fn source_place(sources: &[[u64; 2]; 1024], n: usize, cid: Cid) -> usize
-    requires { ⌜ (n ≤ 1024) × (length (now sources) ≡ 1024) ⌝ }
+pub fn source_place(sources: &SourceRows, n: usize, cid: Cid) -> usize
+    requires { ⌜ (n ≤ capacity) × (length (now sources) ≡ capacity) ⌝ }
     ensures { λ r. ⌜ (r ≤ n) × (r ≡ place before itself cid (sourcesOf n (now (sources .entry)))) ⌝ }
 {
     let mut i: usize = 0;
@@ -72,8 +74,8 @@ pub fn source_place(sources: &[[u64; 2]; 1024], n: usize, cid: Cid) -> usize
 }
 
 // Where the CID is listed.
-pub fn find_source(sources: &[[u64; 2]; 1024], n: usize, cid: Cid) -> Found
-    requires { ⌜ (n ≤ 1024) × (length (now sources) ≡ 1024) ⌝ }
+pub fn find_source(sources: &SourceRows, n: usize, cid: Cid) -> Found
+    requires { ⌜ (n ≤ capacity) × (length (now sources) ≡ capacity) ⌝ }
     ensures { λ r. ⌜ r ≡ sourceAt cid (sourcesOf n (now (sources .entry))) ⌝ }
 {
     let i = source_place(sources, n, cid);
@@ -88,8 +90,8 @@ pub fn find_source(sources: &[[u64; 2]; 1024], n: usize, cid: Cid) -> Found
 }
 
 // Whether the CID has a pair.
-pub fn has_pair(pairs: &[[u64; 4]; 1024], n: usize, cid: Cid) -> bool
-    requires { ⌜ (n ≤ 1024) × (length (now pairs) ≡ 1024) ⌝ }
+pub fn has_pair(pairs: &PairRows, n: usize, cid: Cid) -> bool
+    requires { ⌜ (n ≤ capacity) × (length (now pairs) ≡ capacity) ⌝ }
     ensures { λ r. ⌜ r ≡ has (pairsOf n (now (pairs .entry))) cid ⌝ }
 {
     let mut i: usize = 0;
@@ -106,8 +108,8 @@ pub fn has_pair(pairs: &[[u64; 4]; 1024], n: usize, cid: Cid) -> bool
 }
 
 // The least reading of the pairs; the largest number if there are none.
-pub fn least_reading(pairs: &[[u64; 4]; 1024], n: usize) -> u64
-    requires { ⌜ (n ≤ 1024) × (length (now pairs) ≡ 1024) ⌝ }
+pub fn least_reading(pairs: &PairRows, n: usize) -> u64
+    requires { ⌜ (n ≤ capacity) × (length (now pairs) ≡ capacity) ⌝ }
     ensures { λ r. ⌜ r ≡ lower last-reading (pairsOf n (now (pairs .entry))) ⌝ }
 {
     let mut least: u64 = 0xFFFF_FFFF_FFFF_FFFF;
@@ -128,8 +130,8 @@ pub fn earlier(a: u64, b: u64) -> u64
 }
 
 // From place j on, the first pair whose CID is not before this one.
-pub fn skip_before(pairs: &[[u64; 4]; 1024], n: usize, j: usize, cid: Cid) -> usize
-    requires { ⌜ (n ≤ 1024) × (j ≤ n) × (length (now pairs) ≡ 1024) ⌝ }
+pub fn skip_before(pairs: &PairRows, n: usize, j: usize, cid: Cid) -> usize
+    requires { ⌜ (n ≤ capacity) × (j ≤ n) × (length (now pairs) ≡ capacity) ⌝ }
     ensures { λ r. ⌜ (r ≤ n) × (r ≡ j + prefix (row-before cid) (drop j (take n (now (pairs .entry))))) ⌝ }
 {
     let mut i = j;

@@ -4,8 +4,10 @@ ghost use mathlib.Core.Bool.{not};
 ghost use Prim.Native.Nat.{_≤_};
 ghost use lib.ListN.{length, take, drop};
 ghost use Rattle.table.specs.Table.{keep};
-ghost use Rattle.pairs.specs.Table.{has, live, lowest, last-noted, noted};
+ghost use Rattle.pairs.specs.Table.{capacity, has, live, lowest, last-noted, noted};
 ghost use Rattle.pair_rows.specs.View.{pairsOf, sourcesOf, lonely, starts, lapsed, noteOf, Walkable};
+use crate::PairRows;
+use crate::SourceRows;
 use crate::rows::cid_of;
 use crate::rows::move_pair;
 use crate::rows::move_source;
@@ -26,9 +28,10 @@ pub fn is_live(pair: Pair, reading: u64) -> bool
 }
 
 // Of the first n pairs those that are live; how many.
-pub fn keep_live(pairs: &mut [[u64; 4]; 1024], n: usize, reading: u64) -> usize
-    requires { ⌜ (n ≤ 1024) × (length (now pairs) ≡ 1024) ⌝ }
-    ensures { λ r. ⌜ (r ≤ n) × (length (now (pairs .exit)) ≡ 1024) × (pairsOf r (now (pairs .exit)) ≡ keep (live reading) (pairsOf n (now (pairs .entry)))) ⌝ }
+pub fn keep_live(pairs: &mut PairRows, n: usize, reading: u64) -> usize
+    requires { ⌜ (n ≤ capacity) × (length (now pairs) ≡ capacity) ⌝ }
+    ensures { λ r. ⌜ (r ≤ n) × (length (now (pairs .exit)) ≡ capacity)
+        × (pairsOf r (now (pairs .exit)) ≡ keep (live reading) (pairsOf n (now (pairs .entry)))) ⌝ }
 {
     let mut kept: usize = 0;
     let mut i: usize = 0;
@@ -46,8 +49,8 @@ pub fn keep_live(pairs: &mut [[u64; 4]; 1024], n: usize, reading: u64) -> usize
 }
 
 // Whether the pair at place j has this CID.
-pub fn starts_with(pairs: &[[u64; 4]; 1024], n: usize, j: usize, cid: Cid) -> bool
-    requires { ⌜ (n ≤ 1024) × (length (now pairs) ≡ 1024) ⌝ }
+pub fn starts_with(pairs: &PairRows, n: usize, j: usize, cid: Cid) -> bool
+    requires { ⌜ (n ≤ capacity) × (length (now pairs) ≡ capacity) ⌝ }
     ensures { λ r. ⌜ r ≡ starts cid (drop j (take n (now (pairs .entry)))) ⌝ }
 {
     if j < n {
@@ -60,14 +63,10 @@ pub fn starts_with(pairs: &[[u64; 4]; 1024], n: usize, j: usize, cid: Cid) -> bo
 }
 
 // Of the first m CIDs those that have a pair, by one walk along both lists; how many.
-pub fn keep_sources(
-    pairs: &[[u64; 4]; 1024],
-    n: usize,
-    sources: &mut [[u64; 2]; 1024],
-    m: usize,
-) -> usize
+pub fn keep_sources(pairs: &PairRows, n: usize, sources: &mut SourceRows, m: usize) -> usize
     requires { ⌜ Walkable n (now pairs) m (now sources) ⌝ }
-    ensures { λ r. ⌜ (r ≤ m) × (length (now (sources .exit)) ≡ 1024) × (sourcesOf r (now (sources .exit)) ≡ keep (has (pairsOf n (now (pairs .entry)))) (sourcesOf m (now (sources .entry)))) ⌝ }
+    ensures { λ r. ⌜ (r ≤ m) × (length (now (sources .exit)) ≡ capacity)
+        × (sourcesOf r (now (sources .exit)) ≡ keep (has (pairsOf n (now (pairs .entry)))) (sourcesOf m (now (sources .entry)))) ⌝ }
 {
     let mut kept: usize = 0;
     let mut i: usize = 0;
@@ -87,7 +86,7 @@ pub fn keep_sources(
 }
 
 // Whether each of the first m CIDs has a pair, by the same walk.
-pub fn all_paired(pairs: &[[u64; 4]; 1024], n: usize, sources: &[[u64; 2]; 1024], m: usize) -> bool
+pub fn all_paired(pairs: &PairRows, n: usize, sources: &SourceRows, m: usize) -> bool
     requires { ⌜ Walkable n (now pairs) m (now sources) ⌝ }
     ensures { λ r. ⌜ r ≡ not (lonely (pairsOf n (now (pairs .entry))) (sourcesOf m (now (sources .entry)))) ⌝ }
 {
@@ -119,8 +118,8 @@ pub fn is_lapsed(pair: Pair, cid: Cid, reading: u64) -> bool
 }
 
 // The CID's expired pair of lowest universe.
-pub fn lowest_expired(pairs: &[[u64; 4]; 1024], n: usize, cid: Cid, reading: u64) -> SweepAnswer
-    requires { ⌜ (n ≤ 1024) × (length (now pairs) ≡ 1024) ⌝ }
+pub fn lowest_expired(pairs: &PairRows, n: usize, cid: Cid, reading: u64) -> SweepAnswer
+    requires { ⌜ (n ≤ capacity) × (length (now pairs) ≡ capacity) ⌝ }
     ensures { λ r. ⌜ r ≡ noteOf (lowest reading (pairsOf n (now (pairs .entry))) cid) ⌝ }
 {
     let mut i: usize = 0;
@@ -138,13 +137,13 @@ pub fn lowest_expired(pairs: &[[u64; 4]; 1024], n: usize, cid: Cid, reading: u64
 
 // What the last of the m sources that has an expired pair notes.
 pub fn last_note(
-    pairs: &[[u64; 4]; 1024],
+    pairs: &PairRows,
     n: usize,
-    sources: &[[u64; 2]; 1024],
+    sources: &SourceRows,
     m: usize,
     reading: u64,
 ) -> SweepAnswer
-    requires { ⌜ (n ≤ 1024) × (length (now pairs) ≡ 1024) × (m ≤ 1024) × (length (now sources) ≡ 1024) ⌝ }
+    requires { ⌜ (n ≤ capacity) × (length (now pairs) ≡ capacity) × (m ≤ capacity) × (length (now sources) ≡ capacity) ⌝ }
     ensures { λ r. ⌜ r ≡ noteOf (last-noted reading (pairsOf n (now (pairs .entry))) (sourcesOf m (now (sources .entry)))) ⌝ }
 {
     let mut left = m;
@@ -161,14 +160,8 @@ pub fn last_note(
 }
 
 // Nothing if the first source has no expired pair; else what the last one notes.
-pub fn note(
-    pairs: &[[u64; 4]; 1024],
-    n: usize,
-    sources: &[[u64; 2]; 1024],
-    m: usize,
-    reading: u64,
-) -> SweepAnswer
-    requires { ⌜ (n ≤ 1024) × (length (now pairs) ≡ 1024) × (m ≤ 1024) × (length (now sources) ≡ 1024) ⌝ }
+pub fn note(pairs: &PairRows, n: usize, sources: &SourceRows, m: usize, reading: u64) -> SweepAnswer
+    requires { ⌜ (n ≤ capacity) × (length (now pairs) ≡ capacity) × (m ≤ capacity) × (length (now sources) ≡ capacity) ⌝ }
     ensures { λ r. ⌜ r ≡ noteOf (noted reading (pairsOf n (now (pairs .entry))) (sourcesOf m (now (sources .entry)))) ⌝ }
 {
     if m == 0 {

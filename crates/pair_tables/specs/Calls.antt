@@ -31,11 +31,11 @@ use Rattle.pair_rows.specs.Notes.{older-removed, older-stored, lonely-without, 
 use Rattle.pair_tables.specs.Admit.{swept-idle, stop-listed, stop-limit, stop-full, stop-unlisted, listed-some, listed-none, recorded-listed, never-accepted}
 
 -- the number of rows in use is what the header says
-pub used : {E : Type 0} (f : List ℕ → E) (n : ℕ) (rows : Rows) → n ≤ 1024 → length rows ≡ 1024 → length (map f (take n rows)) ≡ n
+pub used : {E : Type 0} (f : List ℕ → E) (n : ℕ) (rows : Rows) → n ≤ capacity → length rows ≡ capacity → length (map f (take n rows)) ≡ n
 used f n rows h l = length-map (take n rows) f ∙ omega (arith, length-take n rows)
 
 -- a pair is stored among the rows
-pub stored-as : (t : PairTable) (pairs : Rows) (p : Pair) (n o : ℕ) (after : Rows) → PairsKept t pairs → length after ≡ 1024 → n ≤ 1024
+pub stored-as : (t : PairTable) (pairs : Rows) (p : Pair) (n o : ℕ) (after : Rows) → PairsKept t pairs → length after ≡ capacity → n ≤ capacity
     → pairsOf n after ≡ store key-before keyOf p (pairsOf (t .count) pairs) → o ≡ min (t .oldest) (p .reading)
     → Stored t pairs (record { count = n; «source_count» = t .«source_count»; oldest = o; tidy = t .tidy }) after p
 stored-as t pairs p n o after k l nf e m = record {
@@ -57,8 +57,8 @@ module _ (t : PairTable) (pairs sources : Rows) (k : Kept t pairs sources) where
   pub removal-none : (j : Key) → pairAt j (here .pairs) ≡ none → Follows t pairs sources false (removal j here)
   removal-none j h = record { table-is = sym (without-unknown j here h); answer-is = rw h; kept = k }
 
-  module _ (j : Key) (p : Pair) (h : pairAt j (here .pairs) ≡ some p) (n m : ℕ) (pairs′ sources′ : Rows) (lp : length pairs′ ≡ 1024) (ls : length sources′ ≡ 1024)
-      (nf : n ≤ 1024) (mf : m ≤ 1024)
+  module _ (j : Key) (p : Pair) (h : pairAt j (here .pairs) ≡ some p) (n m : ℕ) (pairs′ sources′ : Rows) (lp : length pairs′ ≡ capacity) (ls : length sources′ ≡ capacity)
+      (nf : n ≤ capacity) (mf : m ≤ capacity)
       (ep : pairsOf n pairs′ ≡ remove key-before keyOf j (here .pairs)) (es : sourcesOf m sources′ ≡ leave (j .cid) (remove key-before keyOf j (here .pairs)) (here .sources)) where
     abbrev after : PairTable
     after = record { count = n; «source_count» = m; oldest = t .oldest; tidy = t .tidy }
@@ -92,7 +92,7 @@ module _ (t : PairTable) (pairs sources : Rows) (k : Kept t pairs sources) where
         kept = k;
       }
 
-  module _ (now n m o : ℕ) (pairs′ sources′ : Rows) (lp : length pairs′ ≡ 1024) (ls : length sources′ ≡ 1024) (nf : n ≤ 1024) (mf : m ≤ 1024)
+  module _ (now n m o : ℕ) (pairs′ sources′ : Rows) (lp : length pairs′ ≡ capacity) (ls : length sources′ ≡ capacity) (nf : n ≤ capacity) (mf : m ≤ capacity)
       (ep : pairsOf n pairs′ ≡ keep (live now) (here .pairs)) (es : sourcesOf m sources′ ≡ keep (has (pairsOf n pairs′)) (here .sources))
       (old : o ≡ lower last-reading (pairsOf n pairs′)) where
     abbrev cleaned : PairTable
@@ -198,7 +198,7 @@ module _ (t : PairTable) (pairs sources : Rows) (k : Kept t pairs sources) where
         let s = admit-stopped limit p here a e in
         record { table-is = sym (ap (λ (r : Table × Checked). r .0) s); answer-is = sym (ap (λ (r : Table × Checked). r .1) s); kept = k }
 
-    module _ (e : stop limit p here ≡ none) (u : PairTable) (pairs′ sources′ : Rows) (kp : PairsKept u pairs′) (ls : length sources′ ≡ 1024) (mf : u .«source_count» ≤ 1024)
+    module _ (e : stop limit p here ≡ none) (u : PairTable) (pairs′ sources′ : Rows) (kp : PairsKept u pairs′) (ls : length sources′ ≡ capacity) (mf : u .«source_count» ≤ capacity)
         (tidy : u .tidy ≡ t .tidy) (ep : pairsOf (u .count) pairs′ ≡ store key-before keyOf p (here .pairs))
         (es : sourcesOf (u .«source_count») sources′ ≡ store before itself (p .cid) (here .sources)) where
       kept-pair : tableOf u pairs′ sources′ ≡ recorded p here
@@ -233,7 +233,7 @@ module _ (t : PairTable) (pairs sources : Rows) (k : Kept t pairs sources) where
         (λ w.
         let es : sourcesOf (u .«source_count») sources ≡ store before itself (p .cid) (here .sources) =
         ap (λ (n : ℕ). sourcesOf n sources) (w .2 .same-sources) ∙ sym (ap (λ (v : Table). v .sources) (recorded-listed p d here (k .ordered .sources-ascend) f)) in
-        let g = admit-goes (s ∙ w .0) u pairs′ sources (w .2 .kept) (k .sources-room) (subst (λ (n : ℕ). n ≤ 1024) (sym (w .2 .same-sources)) (k .source-count-fits)) (w .2 .same-tidy) (w .2 .pairs-are) es in
+        let g = admit-goes (s ∙ w .0) u pairs′ sources (w .2 .kept) (k .sources-room) (subst (λ (n : ℕ). n ≤ capacity) (sym (w .2 .same-sources)) (k .source-count-fits)) (w .2 .same-tidy) (w .2 .pairs-are) es in
         subst (λ (b : Checked). Follows u pairs′ sources b (admit limit p here)) (sym (w .1)) g)
         (λ w. stays u pairs′ a (s ∙ w .0) (w .1) (w .2))
       where
@@ -252,10 +252,10 @@ module _ (t : PairTable) (pairs sources : Rows) (k : Kept t pairs sources) where
       admit-limit r = admit-stays (SourcesExceeded (t .«source_count»)) (stop-limit limit p here off (rw long r) ∙ ap (λ (n : ℕ). some (SourcesExceeded n)) long)
 
       module _ (r : reached limit (t .«source_count») ≡ false) where
-        pub admit-full : 1024 ≤ t .«source_count» → Follows t pairs sources PairsFull (admit limit p here)
+        pub admit-full : capacity ≤ t .«source_count» → Follows t pairs sources PairsFull (admit limit p here)
         admit-full h = admit-stays PairsFull (stop-full limit p here off (rw long r) (le-leb capacity (length (here .sources)) (omega (arith, long))))
 
-        module _ (h : t .«source_count» < 1024) (u : PairTable) (pairs′ : Rows) (a : Checked) (w : Admitted t pairs u pairs′ a p) where
+        module _ (h : t .«source_count» < capacity) (u : PairTable) (pairs′ : Rows) (a : Checked) (w : Admitted t pairs u pairs′ a p) where
           by-pairs : stop limit p here ≡ pair-stop p (here .pairs)
           by-pairs = stop-unlisted limit p here off (rw long r) (lt-leb capacity (length (here .sources)) (omega (arith, long)))
 
@@ -266,7 +266,7 @@ module _ (t : PairTable) (pairs sources : Rows) (k : Kept t pairs sources) where
               (λ v. subst (λ (x : PairTable). Follows x pairs′ sources a (admit limit p here)) (sym (v .1)) (subst (λ (x : Rows). Follows t x sources a (admit limit p here)) (sym (v .2)) (admit-stays a (by-pairs ∙ v .0))))
               w
 
-          module _ (sources′ : Rows) (ls : length sources′ ≡ 1024) (es : sourcesOf (t .«source_count» + 1) sources′ ≡ store before itself (p .cid) (here .sources)) where
+          module _ (sources′ : Rows) (ls : length sources′ ≡ capacity) (es : sourcesOf (t .«source_count» + 1) sources′ ≡ store before itself (p .cid) (here .sources)) where
             abbrev joined : PairTable
             joined = record { count = u .count; «source_count» = t .«source_count» + 1; oldest = u .oldest; tidy = u .tidy }
 

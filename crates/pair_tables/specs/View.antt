@@ -29,10 +29,10 @@ tableOf t pairs sources = record { pairs = pairsOf (t .count) pairs; sources = s
 -- What calls require and ensure again: rows as long as their types say, tables in order and within their counts, and the header's two
 -- notes: no pair is older than `oldest`, and where `tidy` is set each listed CID has a pair. `oldest: 0, tidy: false` is true of every table.
 pub record Kept (t : PairTable) (pairs sources : Rows) : Type 0 where
-  pub pairs-room : length pairs ≡ 1024
-  pub sources-room : length sources ≡ 1024
-  pub count-fits : t .count ≤ 1024
-  pub source-count-fits : t .«source_count» ≤ 1024
+  pub pairs-room : length pairs ≡ capacity
+  pub sources-room : length sources ≡ capacity
+  pub count-fits : t .count ≤ capacity
+  pub source-count-fits : t .«source_count» ≤ capacity
   pub ordered : Ordered (tableOf t pairs sources)
   pub none-older : older (t .oldest) (pairsOf (t .count) pairs) ≡ false
   pub none-lonely : t .tidy ≡ true → lonely (pairsOf (t .count) pairs) (sourcesOf (t .«source_count») sources) ≡ false
@@ -50,7 +50,7 @@ renewed t pairs sources = record {
 -- a table over any rows is the empty one
 pub record Emptied (t : PairTable) : Type 0 where
   pub is-empty : (pairs sources : Rows) → tableOf t pairs sources ≡ empty
-  pub kept : (pairs sources : Rows) → length pairs ≡ 1024 → length sources ≡ 1024 → Kept t pairs sources
+  pub kept : (pairs sources : Rows) → length pairs ≡ capacity → length sources ≡ capacity → Kept t pairs sources
 
 -- table, rows and answer are what the definition says, and the next call may follow
 pub record Follows {A : Type 0} (t : PairTable) (pairs sources : Rows) (answer : A) (said : Table × A) : Type 0 where
@@ -76,8 +76,8 @@ removal k t = (without k t, not (unknown (pairAt k (t .pairs))))
 
 -- ── the pairs alone, for the steps of an arrival ──
 pub record PairsKept (t : PairTable) (pairs : Rows) : Type 0 where
-  pub pairs-room : length pairs ≡ 1024
-  pub count-fits : t .count ≤ 1024
+  pub pairs-room : length pairs ≡ capacity
+  pub count-fits : t .count ≤ capacity
   pub none-older : older (t .oldest) (pairsOf (t .count) pairs) ≡ false
 
 -- the pair is stored, and the list of sources is as it was
@@ -102,7 +102,7 @@ Admitted t pairs u after answer p =
 -- what the steps of an arrival require
 pub record NewPair (t : PairTable) (pairs : Rows) (p : Pair) : Type 0 where
   pub kept : PairsKept t pairs
-  pub room : t .count < 1024
+  pub room : t .count < capacity
   pub missing : pairAt (keyOf p) (pairsOf (t .count) pairs) ≡ none
 
 pub record KnownPair (t : PairTable) (pairs : Rows) (at : ℕ) (p : Pair) : Type 0 where

@@ -1,5 +1,9 @@
 // Document 01, 'Pair tables': pairs of a CID and a universe with their last sequence number and reading, and the CIDs that count as sources.
 // A table is a small header by value; its rows lie in memory that the caller lends to every call, and are changed in place.
+
+// What every call of a table is lent.
+pub use pair_rows::PairRows;
+pub use pair_rows::SourceRows;
 ghost use mathlib.Core.Path.{_≡_};
 ghost use mathlib.Core.Bool.{true, false, not, _&&_};
 ghost use Prim.Native.Nat.{_≤_, _<_};
@@ -7,10 +11,12 @@ ghost use lib.ListN.{length};
 ghost use Rattle.table.specs.Table.{remove};
 ghost use Rattle.rules.specs.Age.{expired};
 ghost use Rattle.rules.specs.Cid.{before};
-ghost use Rattle.pairs.specs.Table.{key, itself, has, sweep, admit, check};
+ghost use Rattle.pairs.specs.Table.{capacity, key, itself, has, sweep, admit, check};
 ghost use Rattle.pair_rows.specs.View.{pairsOf, sourcesOf, foundAt};
-ghost use Rattle.pair_tables.specs.View.{tableOf, answered, removal, renewed, Kept, Emptied, Follows, Unmoved, PairsKept, Stored, Admitted, NewPair, KnownPair, NewSource, arriving};
+ghost use Rattle.pair_tables.specs.Lent.{at-entry, Leaves};
+ghost use Rattle.pair_tables.specs.View.{answered, removal, renewed, Kept, Emptied, Unmoved, PairsKept, Stored, Admitted, NewPair, KnownPair, NewSource, arriving};
 use pair_rows::Found;
+use pair_rows::PAIRS;
 use pair_rows::rows::insert_pair;
 use pair_rows::rows::insert_source;
 use pair_rows::rows::pair_of;
@@ -68,9 +74,10 @@ pub struct Arrival {
 }
 
 // The CID taken off the list; how many are left.
-fn drop_source(sources: &mut [[u64; 2]; 1024], n: usize, cid: Cid) -> usize
-    requires { ⌜ (n ≤ 1024) × (length (now sources) ≡ 1024) ⌝ }
-    ensures { λ r. ⌜ (r ≤ n) × (length (now (sources .exit)) ≡ 1024) × (sourcesOf r (now (sources .exit)) ≡ remove before itself cid (sourcesOf n (now (sources .entry)))) ⌝ }
+fn drop_source(sources: &mut SourceRows, n: usize, cid: Cid) -> usize
+    requires { ⌜ (n ≤ capacity) × (length (now sources) ≡ capacity) ⌝ }
+    ensures { λ r. ⌜ (r ≤ n) × (length (now (sources .exit)) ≡ capacity)
+        × (sourcesOf r (now (sources .exit)) ≡ remove before itself cid (sourcesOf n (now (sources .entry)))) ⌝ }
 {
     let Found::At(at) = find_source(&*sources, n, cid) else {
         return n;
@@ -98,8 +105,8 @@ impl PairTable {
         PairTable::new()
     }
 
-    fn find(self, pairs: &[[u64; 4]; 1024], cid: Cid, universe: u16) -> Found
-        requires { ⌜ (self .count ≤ 1024) × (length (now pairs) ≡ 1024) ⌝ }
+    fn find(self, pairs: &PairRows, cid: Cid, universe: u16) -> Found
+        requires { ⌜ (self .count ≤ capacity) × (length (now pairs) ≡ capacity) ⌝ }
         ensures { λ r. ⌜ r ≡ foundAt (key cid universe) (pairsOf (self .count) (now (pairs .entry))) ⌝ }
     {
         let n = self.count;
@@ -117,13 +124,13 @@ impl PairTable {
     // The pair goes, and its CID with its last pair.
     fn remove(
         self,
-        pairs: &mut [[u64; 4]; 1024],
-        sources: &mut [[u64; 2]; 1024],
+        pairs: &mut PairRows,
+        sources: &mut SourceRows,
         cid: Cid,
         universe: u16,
     ) -> Removal
         requires { ⌜ Kept self (now pairs) (now sources) ⌝ }
-        ensures { λ r. ⌜ Follows (r .table) (now (pairs .exit)) (now (sources .exit)) (r .known) (removal (key cid universe) (tableOf self (now (pairs .entry)) (now (sources .entry)))) ⌝ }
+        ensures { λ r. ⌜ Leaves (r .table) pairs sources (r .known) (removal (key cid universe) (at-entry self pairs sources)) ⌝ }
     {
         let Found::At(at) = self.find(&*pairs, cid, universe) else {
             return Removal {
@@ -164,7 +171,7 @@ impl PairTable {
     }
 
     // The header with its notes made anew from the rows.
-    fn renew_notes(self, pairs: &[[u64; 4]; 1024], sources: &[[u64; 2]; 1024]) -> PairTable
+    fn renew_notes(self, pairs: &PairRows, sources: &SourceRows) -> PairTable
         requires { ⌜ Kept self (now pairs) (now sources) ⌝ }
         ensures { λ r. ⌜ r ≡ renewed self (now (pairs .entry)) (now (sources .entry)) ⌝ }
     {
@@ -187,14 +194,9 @@ impl PairTable {
     }
 
     // All expired pairs go, and every CID without a pair. Rows are written only if there are such.
-    fn sweep_expired(
-        self,
-        pairs: &mut [[u64; 4]; 1024],
-        sources: &mut [[u64; 2]; 1024],
-        reading: u64,
-    ) -> Swept
+    fn sweep_expired(self, pairs: &mut PairRows, sources: &mut SourceRows, reading: u64) -> Swept
         requires { ⌜ Kept self (now pairs) (now sources) ⌝ }
-        ensures view { λ r. ⌜ Follows (r .table) (now (pairs .exit)) (now (sources .exit)) (r .answer) (answered (sweep false reading (tableOf self (now (pairs .entry)) (now (sources .entry))))) ⌝ }
+        ensures view { λ r. ⌜ Leaves (r .table) pairs sources (r .answer) (answered (sweep false reading (at-entry self pairs sources))) ⌝ }
         ensures quiet { λ r. ⌜ Unmoved self (now (pairs .entry)) (now (sources .entry)) reading (now (pairs .exit)) (now (sources .exit)) ⌝ }
     {
         if self.is_idle(reading) {
@@ -226,14 +228,9 @@ impl PairTable {
     }
 
     // The pair of the last source noted goes, and is told.
-    fn sweep_announced(
-        self,
-        pairs: &mut [[u64; 4]; 1024],
-        sources: &mut [[u64; 2]; 1024],
-        reading: u64,
-    ) -> Swept
+    fn sweep_announced(self, pairs: &mut PairRows, sources: &mut SourceRows, reading: u64) -> Swept
         requires { ⌜ Kept self (now pairs) (now sources) ⌝ }
-        ensures view { λ r. ⌜ Follows (r .table) (now (pairs .exit)) (now (sources .exit)) (r .answer) (answered (sweep true reading (tableOf self (now (pairs .entry)) (now (sources .entry))))) ⌝ }
+        ensures view { λ r. ⌜ Leaves (r .table) pairs sources (r .answer) (answered (sweep true reading (at-entry self pairs sources))) ⌝ }
         ensures quiet { λ r. ⌜ Unmoved self (now (pairs .entry)) (now (sources .entry)) reading (now (pairs .exit)) (now (sources .exit)) ⌝ }
     {
         if is_expired(reading, self.oldest) {
@@ -264,13 +261,13 @@ impl PairTable {
 
     fn sweep(
         self,
-        pairs: &mut [[u64; 4]; 1024],
-        sources: &mut [[u64; 2]; 1024],
+        pairs: &mut PairRows,
+        sources: &mut SourceRows,
         announce: bool,
         reading: u64,
     ) -> Swept
         requires { ⌜ Kept self (now pairs) (now sources) ⌝ }
-        ensures view { λ r. ⌜ Follows (r .table) (now (pairs .exit)) (now (sources .exit)) (r .answer) (answered (sweep announce reading (tableOf self (now (pairs .entry)) (now (sources .entry))))) ⌝ }
+        ensures view { λ r. ⌜ Leaves (r .table) pairs sources (r .answer) (answered (sweep announce reading (at-entry self pairs sources))) ⌝ }
         ensures quiet { λ r. ⌜ Unmoved self (now (pairs .entry)) (now (sources .entry)) reading (now (pairs .exit)) (now (sources .exit)) ⌝ }
     {
         if announce {
@@ -280,7 +277,7 @@ impl PairTable {
     }
 
     // A pair that is not held goes in at its place.
-    fn store_new(self, pairs: &mut [[u64; 4]; 1024], pair: Pair) -> PairTable
+    fn store_new(self, pairs: &mut PairRows, pair: Pair) -> PairTable
         requires { ⌜ NewPair self (now pairs) pair ⌝ }
         ensures { λ r. ⌜ Stored self (now (pairs .entry)) r (now (pairs .exit)) pair ⌝ }
     {
@@ -299,7 +296,7 @@ impl PairTable {
     }
 
     // A pair takes the place of the one with its key.
-    fn store_known(self, pairs: &mut [[u64; 4]; 1024], at: usize, pair: Pair) -> PairTable
+    fn store_known(self, pairs: &mut PairRows, at: usize, pair: Pair) -> PairTable
         requires { ⌜ KnownPair self (now pairs) at pair ⌝ }
         ensures { λ r. ⌜ Stored self (now (pairs .entry)) r (now (pairs .exit)) pair ⌝ }
     {
@@ -315,13 +312,13 @@ impl PairTable {
     }
 
     // Rules 3 to 5 for the pairs: full, refused, or stored.
-    fn admit_pair(self, pairs: &mut [[u64; 4]; 1024], pair: Pair) -> Arrival
+    fn admit_pair(self, pairs: &mut PairRows, pair: Pair) -> Arrival
         requires { ⌜ PairsKept self (now pairs) ⌝ }
         ensures { λ r. ⌜ Admitted self (now (pairs .entry)) (r .table) (now (pairs .exit)) (r .answer) pair ⌝ }
     {
         let cid = pair.cid;
         let Found::At(at) = self.find(&*pairs, cid, pair.universe) else {
-            if 1024 <= self.count {
+            if PAIRS <= self.count {
                 return Arrival {
                     table: self,
                     answer: Checked::PairsFull,
@@ -350,8 +347,8 @@ impl PairTable {
     }
 
     // Whether a listed CID has a pair.
-    fn owns_pair(self, pairs: &[[u64; 4]; 1024], cid: Cid) -> bool
-        requires { ⌜ (self .count ≤ 1024) × (length (now pairs) ≡ 1024) × (self .tidy ≡ true → has (pairsOf (self .count) (now pairs)) cid ≡ true) ⌝ }
+    fn owns_pair(self, pairs: &PairRows, cid: Cid) -> bool
+        requires { ⌜ (self .count ≤ capacity) × (length (now pairs) ≡ capacity) × (self .tidy ≡ true → has (pairsOf (self .count) (now pairs)) cid ≡ true) ⌝ }
         ensures { λ r. ⌜ r ≡ has (pairsOf (self .count) (now (pairs .entry))) cid ⌝ }
     {
         if self.tidy {
@@ -363,13 +360,13 @@ impl PairTable {
     // Rules 2 to 5 for a CID that is not listed.
     fn admit_source(
         self,
-        pairs: &mut [[u64; 4]; 1024],
-        sources: &mut [[u64; 2]; 1024],
+        pairs: &mut PairRows,
+        sources: &mut SourceRows,
         limit: SourceLimit,
         pair: Pair,
     ) -> Arrival
         requires { ⌜ NewSource self (now pairs) (now sources) pair ⌝ }
-        ensures { λ r. ⌜ Follows (r .table) (now (pairs .exit)) (now (sources .exit)) (r .answer) (admit limit pair (tableOf self (now (pairs .entry)) (now (sources .entry)))) ⌝ }
+        ensures { λ r. ⌜ Leaves (r .table) pairs sources (r .answer) (admit limit pair (at-entry self pairs sources)) ⌝ }
     {
         let n = self.source_count;
         if is_reached(limit, n) {
@@ -378,7 +375,7 @@ impl PairTable {
                 answer: Checked::SourcesExceeded(n),
             };
         }
-        if 1024 <= n {
+        if PAIRS <= n {
             return Arrival {
                 table: self,
                 answer: Checked::PairsFull,
@@ -412,13 +409,13 @@ impl PairTable {
     // Rules 2 to 5, on the table as swept.
     fn admit(
         self,
-        pairs: &mut [[u64; 4]; 1024],
-        sources: &mut [[u64; 2]; 1024],
+        pairs: &mut PairRows,
+        sources: &mut SourceRows,
         limit: SourceLimit,
         pair: Pair,
     ) -> Arrival
         requires { ⌜ Kept self (now pairs) (now sources) ⌝ }
-        ensures { λ r. ⌜ Follows (r .table) (now (pairs .exit)) (now (sources .exit)) (r .answer) (admit limit pair (tableOf self (now (pairs .entry)) (now (sources .entry)))) ⌝ }
+        ensures { λ r. ⌜ Leaves (r .table) pairs sources (r .answer) (admit limit pair (at-entry self pairs sources)) ⌝ }
     {
         let cid = pair.cid;
         let Found::At(_) = find_source(&*sources, self.source_count, cid) else {
@@ -436,14 +433,14 @@ impl PairTable {
     // An arrival: sweep, then rules 2 to 5. The pair carries the arriving sequence number and the reading.
     fn check_seq_number(
         self,
-        pairs: &mut [[u64; 4]; 1024],
-        sources: &mut [[u64; 2]; 1024],
+        pairs: &mut PairRows,
+        sources: &mut SourceRows,
         limit: SourceLimit,
         announce: bool,
         pair: Pair,
     ) -> Arrival
         requires { ⌜ Kept self (now pairs) (now sources) ⌝ }
-        ensures { λ r. ⌜ Follows (r .table) (now (pairs .exit)) (now (sources .exit)) (r .answer) (check limit announce pair (tableOf self (now (pairs .entry)) (now (sources .entry)))) ⌝ }
+        ensures { λ r. ⌜ Leaves (r .table) pairs sources (r .answer) (check limit announce pair (at-entry self pairs sources)) ⌝ }
     {
         let s = self.sweep(&mut *pairs, &mut *sources, announce, pair.reading);
         let t = s.table;
@@ -494,8 +491,8 @@ impl DataTable {
         DataTable { table }
     }
 
-    pub fn find(self, pairs: &[[u64; 4]; 1024], cid: Cid, universe: u16) -> Found
-        requires { ⌜ (self .table .count ≤ 1024) × (length (now pairs) ≡ 1024) ⌝ }
+    pub fn find(self, pairs: &PairRows, cid: Cid, universe: u16) -> Found
+        requires { ⌜ (self .table .count ≤ capacity) × (length (now pairs) ≡ capacity) ⌝ }
         ensures { λ r. ⌜ r ≡ foundAt (key cid universe) (pairsOf (self .table .count) (now (pairs .entry))) ⌝ }
     {
         let t = self.table;
@@ -504,13 +501,13 @@ impl DataTable {
 
     pub fn sweep(
         self,
-        pairs: &mut [[u64; 4]; 1024],
-        sources: &mut [[u64; 2]; 1024],
+        pairs: &mut PairRows,
+        sources: &mut SourceRows,
         announce: bool,
         reading: u64,
     ) -> DataSwept
         requires { ⌜ Kept (self .table) (now pairs) (now sources) ⌝ }
-        ensures view { λ r. ⌜ Follows (r .table .table) (now (pairs .exit)) (now (sources .exit)) (r .answer) (answered (sweep announce reading (tableOf (self .table) (now (pairs .entry)) (now (sources .entry))))) ⌝ }
+        ensures view { λ r. ⌜ Leaves (r .table .table) pairs sources (r .answer) (answered (sweep announce reading (at-entry (self .table) pairs sources))) ⌝ }
         ensures quiet { λ r. ⌜ Unmoved (self .table) (now (pairs .entry)) (now (sources .entry)) reading (now (pairs .exit)) (now (sources .exit)) ⌝ }
     {
         let t = self.table;
@@ -525,13 +522,13 @@ impl DataTable {
 
     pub fn remove(
         self,
-        pairs: &mut [[u64; 4]; 1024],
-        sources: &mut [[u64; 2]; 1024],
+        pairs: &mut PairRows,
+        sources: &mut SourceRows,
         cid: Cid,
         universe: u16,
     ) -> DataRemoval
         requires { ⌜ Kept (self .table) (now pairs) (now sources) ⌝ }
-        ensures { λ r. ⌜ Follows (r .table .table) (now (pairs .exit)) (now (sources .exit)) (r .known) (removal (key cid universe) (tableOf (self .table) (now (pairs .entry)) (now (sources .entry)))) ⌝ }
+        ensures { λ r. ⌜ Leaves (r .table .table) pairs sources (r .known) (removal (key cid universe) (at-entry (self .table) pairs sources)) ⌝ }
     {
         let t = self.table;
         let r = t.remove(pairs, sources, cid, universe);
@@ -544,8 +541,8 @@ impl DataTable {
 
     pub fn check_seq_number(
         self,
-        pairs: &mut [[u64; 4]; 1024],
-        sources: &mut [[u64; 2]; 1024],
+        pairs: &mut PairRows,
+        sources: &mut SourceRows,
         limit: SourceLimit,
         announce: bool,
         cid: Cid,
@@ -554,7 +551,8 @@ impl DataTable {
         reading: u64,
     ) -> DataArrival
         requires { ⌜ Kept (self .table) (now pairs) (now sources) ⌝ }
-        ensures { λ r. ⌜ Follows (r .table .table) (now (pairs .exit)) (now (sources .exit)) (r .answer) (check limit announce (arriving cid universe (sequence .0) reading) (tableOf (self .table) (now (pairs .entry)) (now (sources .entry)))) ⌝ }
+        ensures { λ r. ⌜ Leaves (r .table .table) pairs sources (r .answer)
+            (check limit announce (arriving cid universe (sequence .0) reading) (at-entry (self .table) pairs sources)) ⌝ }
     {
         let t = self.table;
         let number = sequence.0;
@@ -610,8 +608,8 @@ impl SyncTable {
         SyncTable { table }
     }
 
-    pub fn find(self, pairs: &[[u64; 4]; 1024], cid: Cid, universe: u16) -> Found
-        requires { ⌜ (self .table .count ≤ 1024) × (length (now pairs) ≡ 1024) ⌝ }
+    pub fn find(self, pairs: &PairRows, cid: Cid, universe: u16) -> Found
+        requires { ⌜ (self .table .count ≤ capacity) × (length (now pairs) ≡ capacity) ⌝ }
         ensures { λ r. ⌜ r ≡ foundAt (key cid universe) (pairsOf (self .table .count) (now (pairs .entry))) ⌝ }
     {
         let t = self.table;
@@ -620,13 +618,13 @@ impl SyncTable {
 
     pub fn sweep(
         self,
-        pairs: &mut [[u64; 4]; 1024],
-        sources: &mut [[u64; 2]; 1024],
+        pairs: &mut PairRows,
+        sources: &mut SourceRows,
         announce: bool,
         reading: u64,
     ) -> SyncSwept
         requires { ⌜ Kept (self .table) (now pairs) (now sources) ⌝ }
-        ensures view { λ r. ⌜ Follows (r .table .table) (now (pairs .exit)) (now (sources .exit)) (r .answer) (answered (sweep announce reading (tableOf (self .table) (now (pairs .entry)) (now (sources .entry))))) ⌝ }
+        ensures view { λ r. ⌜ Leaves (r .table .table) pairs sources (r .answer) (answered (sweep announce reading (at-entry (self .table) pairs sources))) ⌝ }
         ensures quiet { λ r. ⌜ Unmoved (self .table) (now (pairs .entry)) (now (sources .entry)) reading (now (pairs .exit)) (now (sources .exit)) ⌝ }
     {
         let t = self.table;
@@ -641,13 +639,13 @@ impl SyncTable {
 
     pub fn remove(
         self,
-        pairs: &mut [[u64; 4]; 1024],
-        sources: &mut [[u64; 2]; 1024],
+        pairs: &mut PairRows,
+        sources: &mut SourceRows,
         cid: Cid,
         universe: u16,
     ) -> SyncRemoval
         requires { ⌜ Kept (self .table) (now pairs) (now sources) ⌝ }
-        ensures { λ r. ⌜ Follows (r .table .table) (now (pairs .exit)) (now (sources .exit)) (r .known) (removal (key cid universe) (tableOf (self .table) (now (pairs .entry)) (now (sources .entry)))) ⌝ }
+        ensures { λ r. ⌜ Leaves (r .table .table) pairs sources (r .known) (removal (key cid universe) (at-entry (self .table) pairs sources)) ⌝ }
     {
         let t = self.table;
         let r = t.remove(pairs, sources, cid, universe);
@@ -660,8 +658,8 @@ impl SyncTable {
 
     pub fn check_seq_number(
         self,
-        pairs: &mut [[u64; 4]; 1024],
-        sources: &mut [[u64; 2]; 1024],
+        pairs: &mut PairRows,
+        sources: &mut SourceRows,
         limit: SourceLimit,
         announce: bool,
         cid: Cid,
@@ -670,7 +668,8 @@ impl SyncTable {
         reading: u64,
     ) -> SyncArrival
         requires { ⌜ Kept (self .table) (now pairs) (now sources) ⌝ }
-        ensures { λ r. ⌜ Follows (r .table .table) (now (pairs .exit)) (now (sources .exit)) (r .answer) (check limit announce (arriving cid universe (sequence .0) reading) (tableOf (self .table) (now (pairs .entry)) (now (sources .entry)))) ⌝ }
+        ensures { λ r. ⌜ Leaves (r .table .table) pairs sources (r .answer)
+            (check limit announce (arriving cid universe (sequence .0) reading) (at-entry (self .table) pairs sources)) ⌝ }
     {
         let t = self.table;
         let number = sequence.0;

@@ -8,12 +8,13 @@ use lib.ListN.{length, take, drop, length-set}
 use lib.Seq.{take-take}
 use Rattle.table.specs.Place.{insertAt}
 use Rattle.table.specs.Arrays.{carry, laid}
+use Rattle.pairs.specs.Table.{capacity}
 use borrow.Author.Needs.{needs}
 use Rattle.pair_rows.proofs.rows.insert_pair.Statement.{statement}
 use Rattle.pair_rows.proofs.rows.insert_pair.Tie as tie
 
 abbrev Inv-loop : tie.InvT-loop
-Inv-loop pairs₀ n at carried₀ i₀ pairs carried i = (i ≤ n) × (length pairs ≡ 1024) × (take i pairs ++ carried ∷ drop i (take n pairs) ≡ insertAt at carried₀ (take n pairs₀))
+Inv-loop pairs₀ n at carried₀ i₀ pairs carried i = (i ≤ n) × (length pairs ≡ capacity) × (take i pairs ++ carried ∷ drop i (take n pairs) ≡ insertAt at carried₀ (take n pairs₀))
 
 abbrev μ-loop : tie.MeasureT-loop
 μ-loop pairs₀ n at carried₀ i₀ pairs carried i = n - i

@@ -8,12 +8,13 @@ use lib.ListN.{length, take, drop, length-set}
 use lib.Seq.{take-take}
 use Rattle.table.specs.Place.{insertAt}
 use Rattle.table.specs.Arrays.{carry, laid}
+use Rattle.pairs.specs.Table.{capacity}
 use borrow.Author.Needs.{needs}
 use Rattle.pair_rows.proofs.rows.insert_source.Statement.{statement}
 use Rattle.pair_rows.proofs.rows.insert_source.Tie as tie
 
 abbrev Inv-loop : tie.InvT-loop
-Inv-loop sources₀ n at carried₀ i₀ sources carried i = (i ≤ n) × (length sources ≡ 1024) × (take i sources ++ carried ∷ drop i (take n sources) ≡ insertAt at carried₀ (take n sources₀))
+Inv-loop sources₀ n at carried₀ i₀ sources carried i = (i ≤ n) × (length sources ≡ capacity) × (take i sources ++ carried ∷ drop i (take n sources) ≡ insertAt at carried₀ (take n sources₀))
 
 abbrev μ-loop : tie.MeasureT-loop
 μ-loop sources₀ n at carried₀ i₀ sources carried i = n - i

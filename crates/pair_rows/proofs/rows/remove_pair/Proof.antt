@@ -9,12 +9,13 @@ use lib.ListN.{length, take, drop, length-set}
 use lib.Seq.{take-take}
 use Rattle.table.specs.Place.{removeAt}
 use Rattle.table.specs.Arrays.{move, spent}
+use Rattle.pairs.specs.Table.{capacity}
 use borrow.Author.Needs.{needs}
 use Rattle.pair_rows.proofs.rows.remove_pair.Statement.{statement}
 use Rattle.pair_rows.proofs.rows.remove_pair.Tie as tie
 
 abbrev Inv-loop : tie.InvT-loop
-Inv-loop pairs₀ n at last to₀ pairs to = (to ≤ last) × (length pairs ≡ 1024) × (take to pairs ++ drop (to + 1) (take n pairs) ≡ removeAt at (take n pairs₀))
+Inv-loop pairs₀ n at last to₀ pairs to = (to ≤ last) × (length pairs ≡ capacity) × (take to pairs ++ drop (to + 1) (take n pairs) ≡ removeAt at (take n pairs₀))
 
 abbrev μ-loop : tie.MeasureT-loop
 μ-loop pairs₀ n at last to₀ pairs to = last - to

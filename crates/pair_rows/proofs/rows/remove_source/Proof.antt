@@ -9,12 +9,13 @@ use lib.ListN.{length, take, drop, length-set}
 use lib.Seq.{take-take}
 use Rattle.table.specs.Place.{removeAt}
 use Rattle.table.specs.Arrays.{move, spent}
+use Rattle.pairs.specs.Table.{capacity}
 use borrow.Author.Needs.{needs}
 use Rattle.pair_rows.proofs.rows.remove_source.Statement.{statement}
 use Rattle.pair_rows.proofs.rows.remove_source.Tie as tie
 
 abbrev Inv-loop : tie.InvT-loop
-Inv-loop sources₀ n at last to₀ sources to = (to ≤ last) × (length sources ≡ 1024) × (take to sources ++ drop (to + 1) (take n sources) ≡ removeAt at (take n sources₀))
+Inv-loop sources₀ n at last to₀ sources to = (to ≤ last) × (length sources ≡ capacity) × (take to sources ++ drop (to + 1) (take n sources) ≡ removeAt at (take n sources₀))
 
 abbrev μ-loop : tie.MeasureT-loop
 μ-loop sources₀ n at last to₀ sources to = last - to

@@ -8,14 +8,14 @@ use lib.ListN.{length, take, drop, getD, length-set}
 use Rattle.table.specs.Table.{keep}
 use Rattle.table.specs.Arrays.{spent, compact-keep, compact-drop}
 use Rattle.pairs.specs.declared.Pair.{Pair}
-use Rattle.pairs.specs.Table.{live}
+use Rattle.pairs.specs.Table.{live, capacity}
 use Rattle.pair_rows.specs.Sweep.{live-row, live-done}
 use borrow.Author.Needs.{needs}
 use Rattle.pair_rows.proofs.sweep.keep_live.Statement.{statement}
 use Rattle.pair_rows.proofs.sweep.keep_live.Tie as tie
 
 abbrev Inv-loop : tie.InvT-loop
-Inv-loop pairs₀ n reading kept₀ i₀ pairs kept i = (kept ≤ i) × (i ≤ n) × (length pairs ≡ 1024) × (take kept pairs ++ keep (live-row reading) (drop i (take n pairs)) ≡ keep (live-row reading) (take n pairs₀))
+Inv-loop pairs₀ n reading kept₀ i₀ pairs kept i = (kept ≤ i) × (i ≤ n) × (length pairs ≡ capacity) × (take kept pairs ++ keep (live-row reading) (drop i (take n pairs)) ≡ keep (live-row reading) (take n pairs₀))
 
 abbrev μ-loop : tie.MeasureT-loop
 μ-loop pairs₀ n reading kept₀ i₀ pairs kept i = n - i

@@ -8,6 +8,7 @@ use lib.ListN.{length, take, drop, getD, length-set}
 use Rattle.table.specs.Arrays.{spent}
 use Rattle.table.specs.Place.{prefix}
 use Rattle.rules.specs.declared.Cid.{Cid}
+use Rattle.pairs.specs.Table.{capacity}
 use Rattle.pair_rows.specs.View.{cidOf, row-before, starts}
 use Rattle.pair_rows.specs.Sweep.{Walk, owner, walk-starts, walk-skip, walk-has, walk-drop, walk-keep, walk-done}
 use borrow.Author.Needs.{needs}
@@ -15,7 +16,7 @@ use Rattle.pair_rows.proofs.sweep.keep_sources.Statement.{statement}
 use Rattle.pair_rows.proofs.sweep.keep_sources.Tie as tie
 
 abbrev Inv-loop : tie.InvT-loop
-Inv-loop pairs n sources₀ m kept₀ i₀ j₀ sources kept i j = (kept ≤ i) × (i ≤ m) × (j ≤ n) × (length sources ≡ 1024) × Walk (take n pairs) (take m sources₀) m sources kept i j
+Inv-loop pairs n sources₀ m kept₀ i₀ j₀ sources kept i j = (kept ≤ i) × (i ≤ m) × (j ≤ n) × (length sources ≡ capacity) × Walk (take n pairs) (take m sources₀) m sources kept i j
 
 abbrev μ-loop : tie.MeasureT-loop
 μ-loop pairs n sources₀ m kept₀ i₀ j₀ sources kept i j = m - i

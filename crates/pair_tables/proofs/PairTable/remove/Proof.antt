@@ -10,7 +10,7 @@ use Rattle.table.specs.Table.{remove}
 use Rattle.table.specs.Place.{place}
 use Rattle.rules.specs.Cid.{before}
 use Rattle.pairs.specs.declared.Pair.{Pair}
-use Rattle.pairs.specs.Table.{Key, key, keyOf, key-before, key-order, itself, pairAt, has}
+use Rattle.pairs.specs.Table.{Key, key, keyOf, key-before, key-order, itself, pairAt, has, capacity}
 use Rattle.pair_rows.specs.View.{pairOf, pairsOf, sourcesOf}
 use Rattle.pair_rows.specs.Stores.{placed-at, placed-nothing, found-inside, rows-removed}
 use Rattle.pair_tables.specs.Calls.{removal-none, removal-some}
@@ -32,7 +32,7 @@ module _ (c : tie.After-at) where
   inside : c .at .given .0 .0 < start .args .self .count
   inside = found-inside key-before keyOf key-order pairOf (start .args .self .count) (start .args .pairs .now) wanted (hit .0) (c .at .given .0 .0) (hit .1) (hit .2)
 
-  few : start .args .self .count - 1 ≤ 1024
+  few : start .args .self .count - 1 ≤ capacity
   few = omega (arith, start .pre .count-fits)
 
 -- the pairs that are left
@@ -100,7 +100,7 @@ returns-3 c =
     let s = start t in
     let v = s .args in
     let h = hit t in
-    let m : c .drop-source .result ≤ 1024 = omega (arith, c .drop-source .ensures .0, s .pre .source-count-fits) in
+    let m : c .drop-source .result ≤ capacity = omega (arith, c .drop-source .ensures .0, s .pre .source-count-fits) in
     removal-some (v .self) (v .pairs .now) (v .sources .now) (s .pre) (wanted t) (h .0) (h .1) (v .self .count - 1) (c .drop-source .result) (g .remove-pair .last .0) (c .drop-source .last .0)
     (g .remove-pair .ensures .0) (c .drop-source .ensures .1) (few t) m (rest g)
     (c .drop-source .ensures .2 ∙ ap (λ (b : Bool). cond b (sourcesOf (v .self .«source_count») (v .sources .now)) (remove before itself (v .cid) (sourcesOf (v .self .«source_count») (v .sources .now)))) (sym (has-more w ∙ c .before .before .if1 .left)))

@@ -7,7 +7,7 @@ use Prim.Native.Nat.{_≤_}
 use native.Mathlib.Omega.{arith}
 use Rattle.table.specs.Table.{Ascending, ascending-keep}
 use Rattle.pairs.specs.declared.Pair.{Pair}
-use Rattle.pairs.specs.Table.{keyOf, key-before, key-order, live}
+use Rattle.pairs.specs.Table.{keyOf, key-before, key-order, live, capacity}
 use Rattle.pair_rows.specs.View.{pairsOf}
 use Rattle.pair_tables.specs.Calls.{sweep-idle, sweep-renewed, sweep-done, rows-stay, rows-busy}
 use borrow.Author.Needs.{needs}
@@ -18,7 +18,7 @@ module _ (c : tie.After-keep-live) where
   abbrev start : tie.Start
   start = c .before .before .before .before .before .before .before .before .before
 
-  few : c .keep-live .result ≤ 1024
+  few : c .keep-live .result ≤ capacity
   few = omega (arith, c .keep-live .ensures .0, start .pre .count-fits)
 
 is-idle-requires : tie.Need-is-idle-requires
@@ -75,7 +75,7 @@ returns-3 c =
     let r = e .before .before in
     let s = start l in
     let v = s .args in
-    let m : c .keep-sources .result ≤ 1024 = omega (arith, c .keep-sources .ensures .0, s .pre .source-count-fits) in (
+    let m : c .keep-sources .result ≤ capacity = omega (arith, c .keep-sources .ensures .0, s .pre .source-count-fits) in (
       sweep-done (v .self) (v .pairs .now) (v .sources .now) (s .pre) (v .reading) (l .keep-live .result) (c .keep-sources .result) (o .least-reading .result) (l .keep-live .last .0) (c .keep-sources .last .1 .1 .0)
           (l .keep-live .ensures .1) (c .keep-sources .ensures .1) (few l) m (l .keep-live .ensures .2) (c .keep-sources .ensures .2) (o .least-reading .ensures),
       rows-busy (v .self) (v .pairs .now) (v .sources .now) (s .pre) (v .reading) (r .renew-notes .result) (l .keep-live .last .0) (c .keep-sources .last .1 .1 .0) (omega arith) (r .renew-notes .ensures)
