@@ -1,7 +1,7 @@
 -- What the benchmark's header and number stand for.
 -- Assumes nothing.
 use Prim.Native.Nat.{ℕ}
-use Rattle.pairs.specs.declared.PairTable.{PairTable}
+use Rattle.pair_tables.specs.declared.PairTable.{PairTable}
 use Rattle.pairs.specs.declared.Checked.{Checked}
 use Rattle.pairs.specs.Table.{Table, numberOf}
 use Rattle.bench_pairs.specs.declared.Header.{Header}

@@ -3,11 +3,14 @@ ghost use mathlib.Core.Path.{_≡_};
 ghost use Rattle.settings.specs.declared.SourceLimit.the-variants.{Unlimited};
 ghost use mathlib.Core.Bool.{false};
 ghost use Rattle.pairs.specs.Table.{numberOf, check};
-ghost use Rattle.pairs.specs.View.{tableOf, arriving, Kept, Follows};
+ghost use Rattle.pair_tables.specs.Lent.{at-entry, Leaves};
+ghost use Rattle.pair_tables.specs.View.{arriving, Kept};
 ghost use Rattle.bench_pairs.specs.Bench.{tableFrom, numbered};
+use pair_rows::PairRows;
+use pair_rows::SourceRows;
+use pair_tables::DataTable;
+use pair_tables::PairTable;
 use pairs::Checked;
-use pairs::DataTable;
-use pairs::PairTable;
 use rules::Cid;
 use rules::DataSequence;
 use settings::SourceLimit;
@@ -38,8 +41,8 @@ fn number_of(answer: Checked) -> u8
 #[no_mangle]
 pub extern "C" fn bench_check_seq_number(
     header: Header,
-    pairs: &mut [[u64; 4]; 1024],
-    sources: &mut [[u64; 2]; 1024],
+    pairs: &mut PairRows,
+    sources: &mut SourceRows,
     hi: u64,
     lo: u64,
     universe: u16,
@@ -47,7 +50,8 @@ pub extern "C" fn bench_check_seq_number(
     reading: u64,
 ) -> Header
     requires { ⌜ Kept (tableFrom header) (now pairs) (now sources) ⌝ }
-    ensures { λ r. ⌜ Follows (tableFrom r) (now (pairs .exit)) (now (sources .exit)) (r .number) (numbered (check Unlimited false (arriving (record { hi = hi; lo = lo }) universe sequence reading) (tableOf (tableFrom header) (now (pairs .entry)) (now (sources .entry))))) ⌝ }
+    ensures { λ r. ⌜ Leaves (tableFrom r) pairs sources (r .number)
+        (numbered (check Unlimited false (arriving (record { hi = hi; lo = lo }) universe sequence reading) (at-entry (tableFrom header) pairs sources))) ⌝ }
 {
     let table = PairTable {
         count: header.count,

@@ -1,7 +1,4 @@
 pub mod Table
+pub mod Answers
 pub mod Laws
-pub mod View
-pub mod Rows
-pub mod Sweep
-pub mod Admit
-pub mod Calls
+pub mod Trials

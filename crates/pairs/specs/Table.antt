@@ -1,7 +1,6 @@
 -- Document 01, 'Pair tables': what each call makes of a table. A table here is two lists: the pairs, ascending by CID and then universe,
 -- and the CIDs that count as sources, ascending.
 -- Assumes nothing.
-use mathlib.Core.Path.{_≡_}
 use mathlib.Core.Bool.{Bool, true, false, not, cond, _&&_, _||_}
 use mathlib.Core.Option.{Option, none, some}
 use mathlib.Core.List.{List, [], _∷_}

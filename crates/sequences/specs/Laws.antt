@@ -9,12 +9,14 @@ use Rattle.table.specs.Cases.{split, found, clash}
 use Rattle.rules.specs.declared.Cid.{Cid}
 use Rattle.pairs.specs.declared.Pair.{Pair}
 use Rattle.pairs.specs.declared.SweepAnswer.{SweepAnswer}
-use Rattle.pairs.specs.declared.DataTable.{DataTable}
-use Rattle.pairs.specs.declared.SyncTable.{SyncTable}
+use Rattle.pair_tables.specs.declared.DataTable.{DataTable}
+use Rattle.pair_tables.specs.declared.SyncTable.{SyncTable}
 use Rattle.pairs.specs.declared.SweepAnswer.the-variants.{Quiet, TimedOut}
 use Rattle.pairs.specs.Table.{Table, Key, key, pairAt, sweep, without, unknown}
-use Rattle.pairs.specs.View as pairs
-use Rattle.pairs.specs.View.{Rows, tableOf, answerOf, removal}
+use Rattle.pairs.specs.Answers.{answerOf}
+use Rattle.pair_rows.specs.View.{Rows}
+use Rattle.pair_tables.specs.View as tables
+use Rattle.pair_tables.specs.View.{tableOf, removal}
 use Rattle.sequences.specs.declared.SequenceNumbering.{SequenceNumbering}
 use Rattle.sequences.specs.Sequences.{Numbers, numbers, timeouts, timeouts-data, timeouts-sync, removed}
 use Rattle.sequences.specs.View.{Lent, lent, dataOf, syncOf, numbersOf, Kept, Follows, Unmoved, answered}
@@ -47,7 +49,7 @@ timeouts-on announce now n e = ap (timeouts-data announce now (n .sync-table)) (
 -- ── the calls ──
 module _ (n : SequenceNumbering) (m : Lent) (k : Kept n m) (announce : Bool) (now : ℕ) (d : DataTable) (dp ds : Rows) where
   -- the data table gave number 4
-  pub checks-data : (c : Cid) (u : ℕ) (a : SweepAnswer) → pairs.Follows (d .table) dp ds a (pairs.answered (sweep announce now (dataOf n m))) → a ≡ TimedOut c u
+  pub checks-data : (c : Cid) (u : ℕ) (a : SweepAnswer) → tables.Follows (d .table) dp ds a (tables.answered (sweep announce now (dataOf n m))) → a ≡ TimedOut c u
       → Follows (record { «data» = d; sync = n .sync }) (lent dp ds (m .sync-pairs) (m .sync-sources)) (TimedOut c u) (answered (timeouts announce now (numbersOf n m)))
   checks-data c u a f e =
       let t = timeouts-told announce now (numbersOf n m) (key c u) (answer-some (sweep announce now (dataOf n m) .1) c u (sym e ∙ f .answer-is)) in
@@ -58,8 +60,8 @@ module _ (n : SequenceNumbering) (m : Lent) (k : Kept n m) (announce : Bool) (no
       }
 
   -- it gave nothing, and the synchronisation table was swept too
-  pub checks-both : (a b : SweepAnswer) (y : SyncTable) (sp ss : Rows) → pairs.Follows (d .table) dp ds a (pairs.answered (sweep announce now (dataOf n m))) → a ≡ Quiet
-      → pairs.Follows (y .table) sp ss b (pairs.answered (sweep announce now (syncOf n m)))
+  pub checks-both : (a b : SweepAnswer) (y : SyncTable) (sp ss : Rows) → tables.Follows (d .table) dp ds a (tables.answered (sweep announce now (dataOf n m))) → a ≡ Quiet
+      → tables.Follows (y .table) sp ss b (tables.answered (sweep announce now (syncOf n m)))
       → Follows (record { «data» = d; sync = y }) (lent dp ds sp ss) b (answered (timeouts announce now (numbersOf n m)))
   checks-both a b y sp ss f e g =
       let t = timeouts-on announce now (numbersOf n m) (answer-none (sweep announce now (dataOf n m) .1) (sym e ∙ f .answer-is)) in
@@ -70,7 +72,7 @@ module _ (n : SequenceNumbering) (m : Lent) (k : Kept n m) (announce : Bool) (no
       }
 
   -- a 4 from the data table leaves the synchronisation rows
-  pub unmoved-data : pairs.Unmoved (n .«data» .table) (m .data-pairs) (m .data-sources) now dp ds → Unmoved n m now (lent dp ds (m .sync-pairs) (m .sync-sources))
+  pub unmoved-data : tables.Unmoved (n .«data» .table) (m .data-pairs) (m .data-sources) now dp ds → Unmoved n m now (lent dp ds (m .sync-pairs) (m .sync-sources))
   unmoved-data u = record { data-same = u; sync-same = record { rows-same = λ s l. (refl, refl) } }
 
 -- a removal, by what was found of the data pair
@@ -89,8 +91,8 @@ unfolding removed
 unknown-first j x e = split (unknown (pairAt j (x .data-table .pairs))) (λ h. rw h) (λ h. let z : true ≡ false = rw h at e in clash refl z)
 
 module _ (n : SequenceNumbering) (m : Lent) (k : Kept n m) (j : Key) (d : DataTable) (dp ds : Rows) (known : Bool)
-    (f : pairs.Follows (d .table) dp ds known (removal j (dataOf n m))) where
-  pub removes-both : (y : SyncTable) (sp ss : Rows) (b : Bool) → known ≡ true → pairs.Follows (y .table) sp ss b (removal j (syncOf n m))
+    (f : tables.Follows (d .table) dp ds known (removal j (dataOf n m))) where
+  pub removes-both : (y : SyncTable) (sp ss : Rows) (b : Bool) → known ≡ true → tables.Follows (y .table) sp ss b (removal j (syncOf n m))
       → (numbersOf (record { «data» = d; sync = y }) (lent dp ds sp ss) ≡ removed j (numbersOf n m)) × Kept (record { «data» = d; sync = y }) (lent dp ds sp ss)
   removes-both y sp ss b e g = (
     ap (λ (x : Table). numbers x (tableOf (y .table) sp ss)) (f .table-is) ∙ ap (numbers (without j (dataOf n m))) (g .table-is) ∙ sym (known-first j (numbersOf n m) (sym (f .answer-is) ∙ e)),

@@ -1,3 +1,4 @@
 pub mod Sequences
 pub mod View
+pub mod Lent
 pub mod Laws

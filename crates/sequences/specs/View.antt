@@ -7,8 +7,10 @@ use Prim.Native.Nat.{ℕ}
 use lib.ListN.{length}
 use Rattle.pairs.specs.declared.SweepAnswer.{SweepAnswer}
 use Rattle.pairs.specs.Table.{Table, Key, empty}
-use Rattle.pairs.specs.View as pairs
-use Rattle.pairs.specs.View.{Rows, tableOf, answerOf}
+use Rattle.pairs.specs.Answers.{answerOf}
+use Rattle.pair_rows.specs.View.{Rows}
+use Rattle.pair_tables.specs.View as tables
+use Rattle.pair_tables.specs.View.{tableOf}
 use Rattle.sequences.specs.declared.SequenceNumbering.{SequenceNumbering}
 use Rattle.sequences.specs.Sequences.{Numbers, numbers}
 
@@ -33,8 +35,8 @@ numbersOf n m = numbers (dataOf n m) (syncOf n m)
 
 -- what calls require and ensure again
 pub record Kept (n : SequenceNumbering) (m : Lent) : Type 0 where
-  pub kept-data : pairs.Kept (n .«data» .table) (m .data-pairs) (m .data-sources)
-  pub kept-sync : pairs.Kept (n .sync .table) (m .sync-pairs) (m .sync-sources)
+  pub kept-data : tables.Kept (n .«data» .table) (m .data-pairs) (m .data-sources)
+  pub kept-sync : tables.Kept (n .sync .table) (m .sync-pairs) (m .sync-sources)
 
 -- tables and answer are what the definition says, and the next call may follow
 pub record Follows {A : Type 0} (n : SequenceNumbering) (m : Lent) (answer : A) (said : Numbers × A) : Type 0 where
@@ -47,10 +49,10 @@ answered r = (r .0, answerOf (r .1))
 
 -- each table's rows stay as they are where none of its pairs is expired and each of its listed CIDs has a pair
 pub record Unmoved (n : SequenceNumbering) (m : Lent) (now : ℕ) (m′ : Lent) : Type 0 where
-  pub data-same : pairs.Unmoved (n .«data» .table) (m .data-pairs) (m .data-sources) now (m′ .data-pairs) (m′ .data-sources)
-  pub sync-same : pairs.Unmoved (n .sync .table) (m .sync-pairs) (m .sync-sources) now (m′ .sync-pairs) (m′ .sync-sources)
+  pub data-same : tables.Unmoved (n .«data» .table) (m .data-pairs) (m .data-sources) now (m′ .data-pairs) (m′ .data-sources)
+  pub sync-same : tables.Unmoved (n .sync .table) (m .sync-pairs) (m .sync-sources) now (m′ .sync-pairs) (m′ .sync-sources)
 
 -- both tables are empty over any rows
 pub record Emptied (n : SequenceNumbering) : Type 0 where
-  pub no-data : pairs.Emptied (n .«data» .table)
-  pub no-sync : pairs.Emptied (n .sync .table)
+  pub no-data : tables.Emptied (n .«data» .table)
+  pub no-sync : tables.Emptied (n .sync .table)

@@ -4,10 +4,13 @@ ghost use Prim.Native.Nat.{_≤_};
 ghost use lib.ListN.{length};
 ghost use Rattle.pairs.specs.Table.{key};
 ghost use Rattle.sequences.specs.Sequences.{timeouts, removed};
-ghost use Rattle.sequences.specs.View.{lent, numbersOf, Kept, Follows, Unmoved, Emptied, answered};
-use pairs::DataTable;
+ghost use Rattle.sequences.specs.Lent.{lent-in, lent-parts};
+ghost use Rattle.sequences.specs.View.{numbersOf, Kept, Follows, Unmoved, Emptied, answered};
+use pair_rows::PairRows;
+use pair_rows::SourceRows;
+use pair_tables::DataTable;
+use pair_tables::SyncTable;
 use pairs::SweepAnswer;
-use pairs::SyncTable;
 use rules::Cid;
 
 pub struct SequenceNumbering {
@@ -42,16 +45,20 @@ impl SequenceNumbering {
     // The data table is swept, then the synchronisation table; number 4 ends it.
     pub fn check_timeouts(
         self,
-        data_pairs: &mut [[u64; 4]; 1024],
-        data_sources: &mut [[u64; 2]; 1024],
-        sync_pairs: &mut [[u64; 4]; 1024],
-        sync_sources: &mut [[u64; 2]; 1024],
+        data_pairs: &mut PairRows,
+        data_sources: &mut SourceRows,
+        sync_pairs: &mut PairRows,
+        sync_sources: &mut SourceRows,
         announce: bool,
         reading: u64,
     ) -> TimeoutsChecked
-        requires { ⌜ Kept self (lent (now «data_pairs») (now «data_sources») (now «sync_pairs») (now «sync_sources»)) ⌝ }
-        ensures view { λ r. ⌜ Follows (r .sequences) (lent (now («data_pairs» .exit)) (now («data_sources» .exit)) (now («sync_pairs» .exit)) (now («sync_sources» .exit))) (r .answer) (answered (timeouts announce reading (numbersOf self (lent (now («data_pairs» .entry)) (now («data_sources» .entry)) (now («sync_pairs» .entry)) (now («sync_sources» .entry)))))) ⌝ }
-        ensures quiet { λ r. ⌜ Unmoved self (lent (now («data_pairs» .entry)) (now («data_sources» .entry)) (now («sync_pairs» .entry)) (now («sync_sources» .entry))) reading (lent (now («data_pairs» .exit)) (now («data_sources» .exit)) (now («sync_pairs» .exit)) (now («sync_sources» .exit))) ⌝ }
+        requires { ⌜ Kept self (lent-in «data_pairs» «data_sources» «sync_pairs» «sync_sources») ⌝ }
+        ensures view { λ r.
+            let m = lent-parts «data_pairs» «data_sources» «sync_pairs» «sync_sources» in
+            ⌜ Follows (r .sequences) (m .exit) (r .answer) (answered (timeouts announce reading (numbersOf self (m .entry)))) ⌝ }
+        ensures quiet { λ r.
+            let m = lent-parts «data_pairs» «data_sources» «sync_pairs» «sync_sources» in
+            ⌜ Unmoved self (m .entry) reading (m .exit) ⌝ }
     {
         let d = self.data;
         let y = self.sync;
@@ -79,16 +86,20 @@ impl SequenceNumbering {
     // A stream that ends: its pair leaves the data table, and only if it was there the synchronisation table too.
     pub fn remove_seq_numbers(
         self,
-        data_pairs: &mut [[u64; 4]; 1024],
-        data_sources: &mut [[u64; 2]; 1024],
-        sync_pairs: &mut [[u64; 4]; 1024],
-        sync_sources: &mut [[u64; 2]; 1024],
+        data_pairs: &mut PairRows,
+        data_sources: &mut SourceRows,
+        sync_pairs: &mut PairRows,
+        sync_sources: &mut SourceRows,
         cid: Cid,
         universe: u16,
     ) -> SequenceNumbering
-        requires { ⌜ Kept self (lent (now «data_pairs») (now «data_sources») (now «sync_pairs») (now «sync_sources»)) ⌝ }
-        ensures view { λ r. ⌜ numbersOf r (lent (now («data_pairs» .exit)) (now («data_sources» .exit)) (now («sync_pairs» .exit)) (now («sync_sources» .exit))) ≡ removed (key cid universe) (numbersOf self (lent (now («data_pairs» .entry)) (now («data_sources» .entry)) (now («sync_pairs» .entry)) (now («sync_sources» .entry)))) ⌝ }
-        ensures kept { λ r. ⌜ Kept r (lent (now («data_pairs» .exit)) (now («data_sources» .exit)) (now («sync_pairs» .exit)) (now («sync_sources» .exit))) ⌝ }
+        requires { ⌜ Kept self (lent-in «data_pairs» «data_sources» «sync_pairs» «sync_sources») ⌝ }
+        ensures view { λ r.
+            let m = lent-parts «data_pairs» «data_sources» «sync_pairs» «sync_sources» in
+            ⌜ numbersOf r (m .exit) ≡ removed (key cid universe) (numbersOf self (m .entry)) ⌝ }
+        ensures kept { λ r.
+            let m = lent-parts «data_pairs» «data_sources» «sync_pairs» «sync_sources» in
+            ⌜ Kept r (m .exit) ⌝ }
     {
         let d = self.data;
         let y = self.sync;

@@ -1,0 +1,5 @@
+pub mod View
+pub mod Rows
+pub mod Stores
+pub mod Notes
+pub mod Sweep

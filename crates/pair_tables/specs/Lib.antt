@@ -1,0 +1,4 @@
+pub mod View
+pub mod Lent
+pub mod Admit
+pub mod Calls

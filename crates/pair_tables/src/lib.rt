@@ -1,0 +1,690 @@
+// Document 01, 'Pair tables': pairs of a CID and a universe with their last sequence number and reading, and the CIDs that count as sources.
+// A table is a small header by value; its rows lie in memory that the caller lends to every call, and are changed in place.
+
+// What every call of a table is lent.
+pub use pair_rows::PairRows;
+pub use pair_rows::SourceRows;
+ghost use mathlib.Core.Path.{_≡_};
+ghost use mathlib.Core.Bool.{true, false, not, _&&_};
+ghost use Prim.Native.Nat.{_≤_, _<_};
+ghost use lib.ListN.{length};
+ghost use Rattle.table.specs.Table.{remove};
+ghost use Rattle.rules.specs.Age.{expired};
+ghost use Rattle.rules.specs.Cid.{before};
+ghost use Rattle.pairs.specs.Table.{capacity, key, itself, has, sweep, admit, check};
+ghost use Rattle.pair_rows.specs.View.{pairsOf, sourcesOf, foundAt};
+ghost use Rattle.pair_tables.specs.Lent.{at-entry, Leaves};
+ghost use Rattle.pair_tables.specs.View.{answered, removal, renewed, Kept, Emptied, Unmoved, PairsKept, Stored, Admitted, NewPair, KnownPair, NewSource, arriving};
+use pair_rows::Found;
+use pair_rows::PAIRS;
+use pair_rows::all_paired;
+use pair_rows::earlier;
+use pair_rows::find_source;
+use pair_rows::has_pair;
+use pair_rows::insert_pair;
+use pair_rows::insert_source;
+use pair_rows::keep_live;
+use pair_rows::keep_sources;
+use pair_rows::least_reading;
+use pair_rows::note;
+use pair_rows::pair_of;
+use pair_rows::pair_row;
+use pair_rows::place_of;
+use pair_rows::remove_pair;
+use pair_rows::remove_source;
+use pair_rows::same_key;
+use pair_rows::source_place;
+use pair_rows::source_row;
+use pairs::Checked;
+use pairs::Pair;
+use pairs::SweepAnswer;
+use pairs::is_accepted;
+use pairs::is_reached;
+use rules::Cid;
+use rules::DataSequence;
+use rules::SyncSequence;
+use rules::is_expired;
+use rules::is_sequence_refused;
+use rules::sequence_difference;
+use settings::SourceLimit;
+
+// What a table says of its lent rows: how many pairs and sources are in use, a reading that no pair is older than, and whether each listed CID is
+// known to have a pair.
+pub struct PairTable {
+    pub count: usize,
+    pub source_count: usize,
+    pub oldest: u64,
+    pub tidy: bool,
+}
+
+pub struct Swept {
+    pub table: PairTable,
+    pub answer: SweepAnswer,
+}
+
+pub struct Removal {
+    pub table: PairTable,
+    // The pair was there.
+    pub known: bool,
+}
+
+pub struct Arrival {
+    pub table: PairTable,
+    pub answer: Checked,
+}
+
+// The CID taken off the list; how many are left.
+fn drop_source(sources: &mut SourceRows, n: usize, cid: Cid) -> usize
+    requires { ⌜ (n ≤ capacity) × (length (now sources) ≡ capacity) ⌝ }
+    ensures { λ r. ⌜ (r ≤ n) × (length (now (sources .exit)) ≡ capacity)
+        × (sourcesOf r (now (sources .exit)) ≡ remove before itself cid (sourcesOf n (now (sources .entry)))) ⌝ }
+{
+    let Found::At(at) = find_source(&*sources, n, cid) else {
+        return n;
+    };
+    remove_source(&mut *sources, n, at);
+    n - 1
+}
+
+impl PairTable {
+    // No pairs and no sources, whatever the rows hold.
+    fn new() -> PairTable
+        ensures { λ r. ⌜ Emptied r ⌝ }
+    {
+        PairTable {
+            count: 0,
+            source_count: 0,
+            oldest: 0xFFFF_FFFF_FFFF_FFFF,
+            tidy: true,
+        }
+    }
+
+    fn clear(self) -> PairTable
+        ensures { λ r. ⌜ Emptied r ⌝ }
+    {
+        PairTable::new()
+    }
+
+    fn find(self, pairs: &PairRows, cid: Cid, universe: u16) -> Found
+        requires { ⌜ (self .count ≤ capacity) × (length (now pairs) ≡ capacity) ⌝ }
+        ensures { λ r. ⌜ r ≡ foundAt (key cid universe) (pairsOf (self .count) (now (pairs .entry))) ⌝ }
+    {
+        let n = self.count;
+        let i = place_of(pairs, n, cid, universe);
+        if i < n {
+            let row = pairs[i];
+            let pair = pair_of(row);
+            if same_key(pair, cid, universe) {
+                return Found::At(i);
+            }
+        }
+        Found::Nothing
+    }
+
+    // The pair goes, and its CID with its last pair.
+    fn remove(
+        self,
+        pairs: &mut PairRows,
+        sources: &mut SourceRows,
+        cid: Cid,
+        universe: u16,
+    ) -> Removal
+        requires { ⌜ Kept self (now pairs) (now sources) ⌝ }
+        ensures { λ r. ⌜ Leaves (r .table) pairs sources (r .known) (removal (key cid universe) (at-entry self pairs sources)) ⌝ }
+    {
+        let Found::At(at) = self.find(&*pairs, cid, universe) else {
+            return Removal {
+                table: self,
+                known: false,
+            };
+        };
+        let n = self.count;
+        remove_pair(&mut *pairs, n, at);
+        let left = n - 1;
+        if has_pair(&*pairs, left, cid) {
+            let table = PairTable {
+                count: left,
+                source_count: self.source_count,
+                oldest: self.oldest,
+                tidy: self.tidy,
+            };
+            return Removal { table, known: true };
+        }
+        let remaining = drop_source(&mut *sources, self.source_count, cid);
+        let table = PairTable {
+            count: left,
+            source_count: remaining,
+            oldest: self.oldest,
+            tidy: self.tidy,
+        };
+        Removal { table, known: true }
+    }
+
+    // No pair can be expired and no CID be without a pair.
+    fn is_idle(self, reading: u64) -> bool
+        ensures { λ r. ⌜ r ≡ self .tidy && not (expired reading (self .oldest)) ⌝ }
+    {
+        if self.tidy {
+            return !is_expired(reading, self.oldest);
+        }
+        false
+    }
+
+    // The header with its notes made anew from the rows.
+    fn renew_notes(self, pairs: &PairRows, sources: &SourceRows) -> PairTable
+        requires { ⌜ Kept self (now pairs) (now sources) ⌝ }
+        ensures { λ r. ⌜ r ≡ renewed self (now (pairs .entry)) (now (sources .entry)) ⌝ }
+    {
+        let oldest = least_reading(pairs, self.count);
+        if self.tidy {
+            return PairTable {
+                count: self.count,
+                source_count: self.source_count,
+                oldest: oldest,
+                tidy: true,
+            };
+        }
+        let tidy = all_paired(pairs, self.count, sources, self.source_count);
+        PairTable {
+            count: self.count,
+            source_count: self.source_count,
+            oldest: oldest,
+            tidy: tidy,
+        }
+    }
+
+    // All expired pairs go, and every CID without a pair. Rows are written only if there are such.
+    fn sweep_expired(self, pairs: &mut PairRows, sources: &mut SourceRows, reading: u64) -> Swept
+        requires { ⌜ Kept self (now pairs) (now sources) ⌝ }
+        ensures view { λ r. ⌜ Leaves (r .table) pairs sources (r .answer) (answered (sweep false reading (at-entry self pairs sources))) ⌝ }
+        ensures quiet { λ r. ⌜ Unmoved self (now (pairs .entry)) (now (sources .entry)) reading (now (pairs .exit)) (now (sources .exit)) ⌝ }
+    {
+        if self.is_idle(reading) {
+            return Swept {
+                table: self,
+                answer: SweepAnswer::Quiet,
+            };
+        }
+        let t = self.renew_notes(&*pairs, &*sources);
+        if t.is_idle(reading) {
+            return Swept {
+                table: t,
+                answer: SweepAnswer::Quiet,
+            };
+        }
+        let count = keep_live(&mut *pairs, self.count, reading);
+        let oldest = least_reading(&*pairs, count);
+        let listed = keep_sources(&*pairs, count, &mut *sources, self.source_count);
+        let table = PairTable {
+            count: count,
+            source_count: listed,
+            oldest: oldest,
+            tidy: true,
+        };
+        Swept {
+            table: table,
+            answer: SweepAnswer::Quiet,
+        }
+    }
+
+    // The pair of the last source noted goes, and is told.
+    fn sweep_announced(self, pairs: &mut PairRows, sources: &mut SourceRows, reading: u64) -> Swept
+        requires { ⌜ Kept self (now pairs) (now sources) ⌝ }
+        ensures view { λ r. ⌜ Leaves (r .table) pairs sources (r .answer) (answered (sweep true reading (at-entry self pairs sources))) ⌝ }
+        ensures quiet { λ r. ⌜ Unmoved self (now (pairs .entry)) (now (sources .entry)) reading (now (pairs .exit)) (now (sources .exit)) ⌝ }
+    {
+        if is_expired(reading, self.oldest) {
+            let SweepAnswer::TimedOut(cid, universe) = note(
+                &*pairs,
+                self.count,
+                &*sources,
+                self.source_count,
+                reading,
+            ) else {
+                return Swept {
+                    table: self,
+                    answer: SweepAnswer::Quiet,
+                };
+            };
+            let r = self.remove(&mut *pairs, &mut *sources, cid, universe);
+            let table = r.table;
+            return Swept {
+                table: table,
+                answer: SweepAnswer::TimedOut(cid, universe),
+            };
+        }
+        Swept {
+            table: self,
+            answer: SweepAnswer::Quiet,
+        }
+    }
+
+    fn sweep(
+        self,
+        pairs: &mut PairRows,
+        sources: &mut SourceRows,
+        announce: bool,
+        reading: u64,
+    ) -> Swept
+        requires { ⌜ Kept self (now pairs) (now sources) ⌝ }
+        ensures view { λ r. ⌜ Leaves (r .table) pairs sources (r .answer) (answered (sweep announce reading (at-entry self pairs sources))) ⌝ }
+        ensures quiet { λ r. ⌜ Unmoved self (now (pairs .entry)) (now (sources .entry)) reading (now (pairs .exit)) (now (sources .exit)) ⌝ }
+    {
+        if announce {
+            return self.sweep_announced(pairs, sources, reading);
+        }
+        self.sweep_expired(pairs, sources, reading)
+    }
+
+    // A pair that is not held goes in at its place.
+    fn store_new(self, pairs: &mut PairRows, pair: Pair) -> PairTable
+        requires { ⌜ NewPair self (now pairs) pair ⌝ }
+        ensures { λ r. ⌜ Stored self (now (pairs .entry)) r (now (pairs .exit)) pair ⌝ }
+    {
+        let n = self.count;
+        let cid = pair.cid;
+        let at = place_of(&*pairs, n, cid, pair.universe);
+        let row = pair_row(pair);
+        insert_pair(&mut *pairs, n, at, row);
+        let oldest = earlier(self.oldest, pair.reading);
+        PairTable {
+            count: n + 1,
+            source_count: self.source_count,
+            oldest: oldest,
+            tidy: self.tidy,
+        }
+    }
+
+    // A pair takes the place of the one with its key.
+    fn store_known(self, pairs: &mut PairRows, at: usize, pair: Pair) -> PairTable
+        requires { ⌜ KnownPair self (now pairs) at pair ⌝ }
+        ensures { λ r. ⌜ Stored self (now (pairs .entry)) r (now (pairs .exit)) pair ⌝ }
+    {
+        let row = pair_row(pair);
+        pairs[at] = row;
+        let least = earlier(self.oldest, pair.reading);
+        PairTable {
+            count: self.count,
+            source_count: self.source_count,
+            oldest: least,
+            tidy: self.tidy,
+        }
+    }
+
+    // Rules 3 to 5 for the pairs: full, refused, or stored.
+    fn admit_pair(self, pairs: &mut PairRows, pair: Pair) -> Arrival
+        requires { ⌜ PairsKept self (now pairs) ⌝ }
+        ensures { λ r. ⌜ Admitted self (now (pairs .entry)) (r .table) (now (pairs .exit)) (r .answer) pair ⌝ }
+    {
+        let cid = pair.cid;
+        let Found::At(at) = self.find(&*pairs, cid, pair.universe) else {
+            if PAIRS <= self.count {
+                return Arrival {
+                    table: self,
+                    answer: Checked::PairsFull,
+                };
+            }
+            let table = self.store_new(&mut *pairs, pair);
+            return Arrival {
+                table: table,
+                answer: Checked::Accepted,
+            };
+        };
+        let row = pairs[at];
+        let last = pair_of(row);
+        let difference = sequence_difference(pair.sequence, last.sequence);
+        if is_sequence_refused(difference) {
+            return Arrival {
+                table: self,
+                answer: Checked::OutOfSequence(pair.sequence, last.sequence, difference),
+            };
+        }
+        let table = self.store_known(&mut *pairs, at, pair);
+        Arrival {
+            table: table,
+            answer: Checked::Accepted,
+        }
+    }
+
+    // Whether a listed CID has a pair.
+    fn owns_pair(self, pairs: &PairRows, cid: Cid) -> bool
+        requires { ⌜ (self .count ≤ capacity) × (length (now pairs) ≡ capacity) × (self .tidy ≡ true → has (pairsOf (self .count) (now pairs)) cid ≡ true) ⌝ }
+        ensures { λ r. ⌜ r ≡ has (pairsOf (self .count) (now (pairs .entry))) cid ⌝ }
+    {
+        if self.tidy {
+            return true;
+        }
+        has_pair(pairs, self.count, cid)
+    }
+
+    // Rules 2 to 5 for a CID that is not listed.
+    fn admit_source(
+        self,
+        pairs: &mut PairRows,
+        sources: &mut SourceRows,
+        limit: SourceLimit,
+        pair: Pair,
+    ) -> Arrival
+        requires { ⌜ NewSource self (now pairs) (now sources) pair ⌝ }
+        ensures { λ r. ⌜ Leaves (r .table) pairs sources (r .answer) (admit limit pair (at-entry self pairs sources)) ⌝ }
+    {
+        let n = self.source_count;
+        if is_reached(limit, n) {
+            return Arrival {
+                table: self,
+                answer: Checked::SourcesExceeded(n),
+            };
+        }
+        if PAIRS <= n {
+            return Arrival {
+                table: self,
+                answer: Checked::PairsFull,
+            };
+        }
+        let r = self.admit_pair(&mut *pairs, pair);
+        let t = r.table;
+        let answer = r.answer;
+        if is_accepted(answer) {
+            let cid = pair.cid;
+            let at = source_place(&*sources, n, cid);
+            let row = source_row(cid);
+            insert_source(&mut *sources, n, at, row);
+            let table = PairTable {
+                count: t.count,
+                source_count: n + 1,
+                oldest: t.oldest,
+                tidy: t.tidy,
+            };
+            return Arrival {
+                table: table,
+                answer: Checked::Accepted,
+            };
+        }
+        Arrival {
+            table: t,
+            answer: answer,
+        }
+    }
+
+    // Rules 2 to 5, on the table as swept.
+    fn admit(
+        self,
+        pairs: &mut PairRows,
+        sources: &mut SourceRows,
+        limit: SourceLimit,
+        pair: Pair,
+    ) -> Arrival
+        requires { ⌜ Kept self (now pairs) (now sources) ⌝ }
+        ensures { λ r. ⌜ Leaves (r .table) pairs sources (r .answer) (admit limit pair (at-entry self pairs sources)) ⌝ }
+    {
+        let cid = pair.cid;
+        let Found::At(_) = find_source(&*sources, self.source_count, cid) else {
+            return self.admit_source(pairs, sources, limit, pair);
+        };
+        if self.owns_pair(&*pairs, cid) {
+            return self.admit_pair(pairs, pair);
+        }
+        Arrival {
+            table: self,
+            answer: Checked::SourceWithoutPairs,
+        }
+    }
+
+    // An arrival: sweep, then rules 2 to 5. The pair carries the arriving sequence number and the reading.
+    fn check_seq_number(
+        self,
+        pairs: &mut PairRows,
+        sources: &mut SourceRows,
+        limit: SourceLimit,
+        announce: bool,
+        pair: Pair,
+    ) -> Arrival
+        requires { ⌜ Kept self (now pairs) (now sources) ⌝ }
+        ensures { λ r. ⌜ Leaves (r .table) pairs sources (r .answer) (check limit announce pair (at-entry self pairs sources)) ⌝ }
+    {
+        let s = self.sweep(&mut *pairs, &mut *sources, announce, pair.reading);
+        let t = s.table;
+        let told = s.answer;
+        let SweepAnswer::TimedOut(cid, universe) = told else {
+            return t.admit(pairs, sources, limit, pair);
+        };
+        Arrival {
+            table: t,
+            answer: Checked::UniverseTimeout(cid, universe),
+        }
+    }
+}
+
+// The table of data packets: only a data sequence number enters it.
+pub struct DataTable {
+    pub table: PairTable,
+}
+
+pub struct DataSwept {
+    pub table: DataTable,
+    pub answer: SweepAnswer,
+}
+
+pub struct DataRemoval {
+    pub table: DataTable,
+    pub known: bool,
+}
+
+pub struct DataArrival {
+    pub table: DataTable,
+    pub answer: Checked,
+}
+
+impl DataTable {
+    pub fn new() -> DataTable
+        ensures { λ r. ⌜ Emptied (r .table) ⌝ }
+    {
+        let table = PairTable::new();
+        DataTable { table }
+    }
+
+    pub fn clear(self) -> DataTable
+        ensures { λ r. ⌜ Emptied (r .table) ⌝ }
+    {
+        let t = self.table;
+        let table = t.clear();
+        DataTable { table }
+    }
+
+    pub fn find(self, pairs: &PairRows, cid: Cid, universe: u16) -> Found
+        requires { ⌜ (self .table .count ≤ capacity) × (length (now pairs) ≡ capacity) ⌝ }
+        ensures { λ r. ⌜ r ≡ foundAt (key cid universe) (pairsOf (self .table .count) (now (pairs .entry))) ⌝ }
+    {
+        let t = self.table;
+        t.find(pairs, cid, universe)
+    }
+
+    pub fn sweep(
+        self,
+        pairs: &mut PairRows,
+        sources: &mut SourceRows,
+        announce: bool,
+        reading: u64,
+    ) -> DataSwept
+        requires { ⌜ Kept (self .table) (now pairs) (now sources) ⌝ }
+        ensures view { λ r. ⌜ Leaves (r .table .table) pairs sources (r .answer) (answered (sweep announce reading (at-entry (self .table) pairs sources))) ⌝ }
+        ensures quiet { λ r. ⌜ Unmoved (self .table) (now (pairs .entry)) (now (sources .entry)) reading (now (pairs .exit)) (now (sources .exit)) ⌝ }
+    {
+        let t = self.table;
+        let r = t.sweep(pairs, sources, announce, reading);
+        let table = r.table;
+        let answer = r.answer;
+        DataSwept {
+            table: DataTable { table },
+            answer: answer,
+        }
+    }
+
+    pub fn remove(
+        self,
+        pairs: &mut PairRows,
+        sources: &mut SourceRows,
+        cid: Cid,
+        universe: u16,
+    ) -> DataRemoval
+        requires { ⌜ Kept (self .table) (now pairs) (now sources) ⌝ }
+        ensures { λ r. ⌜ Leaves (r .table .table) pairs sources (r .known) (removal (key cid universe) (at-entry (self .table) pairs sources)) ⌝ }
+    {
+        let t = self.table;
+        let r = t.remove(pairs, sources, cid, universe);
+        let table = r.table;
+        DataRemoval {
+            table: DataTable { table },
+            known: r.known,
+        }
+    }
+
+    pub fn check_seq_number(
+        self,
+        pairs: &mut PairRows,
+        sources: &mut SourceRows,
+        limit: SourceLimit,
+        announce: bool,
+        cid: Cid,
+        universe: u16,
+        sequence: DataSequence,
+        reading: u64,
+    ) -> DataArrival
+        requires { ⌜ Kept (self .table) (now pairs) (now sources) ⌝ }
+        ensures { λ r. ⌜ Leaves (r .table .table) pairs sources (r .answer)
+            (check limit announce (arriving cid universe (sequence .0) reading) (at-entry (self .table) pairs sources)) ⌝ }
+    {
+        let t = self.table;
+        let number = sequence.0;
+        let pair = Pair {
+            cid: cid,
+            universe: universe,
+            sequence: number,
+            reading: reading,
+        };
+        let r = t.check_seq_number(pairs, sources, limit, announce, pair);
+        let table = r.table;
+        let answer = r.answer;
+        DataArrival {
+            table: DataTable { table },
+            answer: answer,
+        }
+    }
+}
+
+// The table of synchronisation packets: only a synchronisation sequence number enters it.
+pub struct SyncTable {
+    pub table: PairTable,
+}
+
+pub struct SyncSwept {
+    pub table: SyncTable,
+    pub answer: SweepAnswer,
+}
+
+pub struct SyncRemoval {
+    pub table: SyncTable,
+    pub known: bool,
+}
+
+pub struct SyncArrival {
+    pub table: SyncTable,
+    pub answer: Checked,
+}
+
+impl SyncTable {
+    pub fn new() -> SyncTable
+        ensures { λ r. ⌜ Emptied (r .table) ⌝ }
+    {
+        let table = PairTable::new();
+        SyncTable { table }
+    }
+
+    pub fn clear(self) -> SyncTable
+        ensures { λ r. ⌜ Emptied (r .table) ⌝ }
+    {
+        let t = self.table;
+        let table = t.clear();
+        SyncTable { table }
+    }
+
+    pub fn find(self, pairs: &PairRows, cid: Cid, universe: u16) -> Found
+        requires { ⌜ (self .table .count ≤ capacity) × (length (now pairs) ≡ capacity) ⌝ }
+        ensures { λ r. ⌜ r ≡ foundAt (key cid universe) (pairsOf (self .table .count) (now (pairs .entry))) ⌝ }
+    {
+        let t = self.table;
+        t.find(pairs, cid, universe)
+    }
+
+    pub fn sweep(
+        self,
+        pairs: &mut PairRows,
+        sources: &mut SourceRows,
+        announce: bool,
+        reading: u64,
+    ) -> SyncSwept
+        requires { ⌜ Kept (self .table) (now pairs) (now sources) ⌝ }
+        ensures view { λ r. ⌜ Leaves (r .table .table) pairs sources (r .answer) (answered (sweep announce reading (at-entry (self .table) pairs sources))) ⌝ }
+        ensures quiet { λ r. ⌜ Unmoved (self .table) (now (pairs .entry)) (now (sources .entry)) reading (now (pairs .exit)) (now (sources .exit)) ⌝ }
+    {
+        let t = self.table;
+        let r = t.sweep(pairs, sources, announce, reading);
+        let table = r.table;
+        let answer = r.answer;
+        SyncSwept {
+            table: SyncTable { table },
+            answer: answer,
+        }
+    }
+
+    pub fn remove(
+        self,
+        pairs: &mut PairRows,
+        sources: &mut SourceRows,
+        cid: Cid,
+        universe: u16,
+    ) -> SyncRemoval
+        requires { ⌜ Kept (self .table) (now pairs) (now sources) ⌝ }
+        ensures { λ r. ⌜ Leaves (r .table .table) pairs sources (r .known) (removal (key cid universe) (at-entry (self .table) pairs sources)) ⌝ }
+    {
+        let t = self.table;
+        let r = t.remove(pairs, sources, cid, universe);
+        let table = r.table;
+        SyncRemoval {
+            table: SyncTable { table },
+            known: r.known,
+        }
+    }
+
+    pub fn check_seq_number(
+        self,
+        pairs: &mut PairRows,
+        sources: &mut SourceRows,
+        limit: SourceLimit,
+        announce: bool,
+        cid: Cid,
+        universe: u16,
+        sequence: SyncSequence,
+        reading: u64,
+    ) -> SyncArrival
+        requires { ⌜ Kept (self .table) (now pairs) (now sources) ⌝ }
+        ensures { λ r. ⌜ Leaves (r .table .table) pairs sources (r .answer)
+            (check limit announce (arriving cid universe (sequence .0) reading) (at-entry (self .table) pairs sources)) ⌝ }
+    {
+        let t = self.table;
+        let number = sequence.0;
+        let pair = Pair {
+            cid: cid,
+            universe: universe,
+            sequence: number,
+            reading: reading,
+        };
+        let r = t.check_seq_number(pairs, sources, limit, announce, pair);
+        let table = r.table;
+        let answer = r.answer;
+        SyncArrival {
+            table: SyncTable { table },
+            answer: answer,
+        }
+    }
+}
