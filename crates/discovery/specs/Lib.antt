@@ -2,14 +2,3 @@ pub mod Discovery
 pub mod Laws
 pub mod Kept
 pub mod Trials
-pub mod Store
-pub mod Leaves
-pub mod Moves
-pub mod Pool
-pub mod Lent
-pub mod Rows
-pub mod View
-pub mod Steps
-pub mod Calls
-pub mod Arrive
-pub mod Sweep

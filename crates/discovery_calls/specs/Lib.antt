@@ -1,0 +1,5 @@
+pub mod Moves
+pub mod View
+pub mod Calls
+pub mod Arrive
+pub mod Sweep
