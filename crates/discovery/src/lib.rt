@@ -1,4 +1,16 @@
-// Document 01, 'Discovery': what a page's arrival answers. The definitions stand in specs/.
+// Document 01, 'Discovery': its sizes, and what a page's arrival answers. The definitions stand in specs/.
+
+// "At most 64 pages held, partial and listed together": `capacity`; `take_page` of discovery_calls is proved with both.
+pub const PAGES: usize = 64;
+
+// "512 universes a page": `most-universes`; `page_arrives` of discovery_calls is proved with both.
+pub const PAGE_UNIVERSES: usize = 512;
+
+// "name over 63 | 1": `most-name`; `page_arrives` is proved with both.
+pub const NAME: usize = 63;
+
+// The pool of universes, all pages full: `pool-length` of discovery_rows, by its function `pool_length`.
+pub const POOL: usize = PAGES * PAGE_UNIVERSES;
 
 // What a page's arrival answers.
 pub enum PageAnswer {

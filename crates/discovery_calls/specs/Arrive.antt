@@ -22,7 +22,7 @@ use Rattle.discovery_calls.specs.declared.PageCalled.{PageCalled}
 use Rattle.discovery.specs.declared.PageCall.{PageCall}
 use Rattle.discovery.specs.declared.PageCall.the-variants.{Done, TooLong}
 use Rattle.discovery.specs.declared.PageAnswer.the-variants.{Taken, Listed, PagesFull}
-use Rattle.discovery.specs.Discovery.{Source, Discovered, Announcement, Note, begin, extend, list, told, lookup, drop-source, relisted, updated, numbered, complete, extended, begun, noted, noting, taken, arrived, too-long, page-call, numberOf, callNumber, pages-held, capacity}
+use Rattle.discovery.specs.Discovery.{Source, Discovered, Announcement, Note, begin, extend, list, told, lookup, drop-source, relisted, updated, numbered, complete, extended, begun, noted, noting, taken, arrived, too-long, page-call, numberOf, callNumber, pages-held, capacity, most-name, most-universes}
 use Rattle.discovery_rows.specs.Lent.{Lent, lent-none, lent-then}
 use Rattle.discovery.specs.Laws.{none-lookup, lookup-cid, partial-noting, extended-cid, extended-last}
 use Rattle.discovery.specs.Kept.{dropped-none, count-keep}
@@ -121,8 +121,8 @@ pub last-of : (d : Discovery) (S N P : List (List ℕ)) (U : List ℕ) (k : Kept
 unfolding discoveredOf viewOf headsOf
 last-of d S N P U k c at place inside t e =
     let n = d .«source_count» in
-    let x : length S ≡ 64 = k .source-rows in
-    let w : n ≤ 64 = k .within in
+    let x : length S ≡ capacity = k .source-rows in
+    let w : n ≤ capacity = k .within in
     let h₀ : Head = record { mark = 0; cid = c; name = []; last-page = 0; reading = 0 } in
     let hs = heads (take n S) (take n N) in
     let q : at ≡ prefix (λ h. not (heads-of 0 c h)) hs = place ∙ sym (heads-prefix 0 c (take n S) (take n N)) in
@@ -198,20 +198,20 @@ pub record Arrival (d : Discovery) (S N P : List (List ℕ)) (U : List ℕ) (now
   pub refused : leb capacity (pages-held (discoveredOf d S N P U)) ≡ true → (r .discovery ≡ d) × (S′ ≡ S) × (N′ ≡ N) × (P′ ≡ P) × (U′ ≡ U)
 
 module _ (d : Discovery) (S N P : List (List ℕ)) (U : List ℕ) (k : Kept d S N P U) (now : ℕ) (a : Announcement) where
-  pub arrival-full : 64 ≤ d .«page_count» → Arrival d S N P U now a (record { discovery = d; answer = PagesFull }) S N P U
+  pub arrival-full : capacity ≤ d .«page_count» → Arrival d S N P U now a (record { discovery = d; answer = PagesFull }) S N P U
   unfolding arrived
   arrival-full h =
-      let f : leb capacity (pages-held (discoveredOf d S N P U)) ≡ true = rw (kept-held d S N P U k) (le-leb 64 (d .«page_count») h) in
+      let f : leb capacity (pages-held (discoveredOf d S N P U)) ≡ true = rw (kept-held d S N P U k) (le-leb capacity (d .«page_count») h) in
       record {
         took = record { kept = k; seen = rw f; answered = rw f; lent = lent-none U };
         refused = λ e. (refl, refl, refl, refl, refl);
       }
 
-  pub arrival-taken : (r : PageArrived) (S′ N′ P′ : List (List ℕ)) (U′ : List ℕ) → d .«page_count» < 64
+  pub arrival-taken : (r : PageArrived) (S′ N′ P′ : List (List ℕ)) (U′ : List ℕ) → d .«page_count» < capacity
       → Took U r S′ N′ P′ U′ (taken now a (discoveredOf d S N P U)) → Arrival d S N P U now a r S′ N′ P′ U′
   unfolding arrived
   arrival-taken r S′ N′ P′ U′ h t =
-      let f : leb capacity (pages-held (discoveredOf d S N P U)) ≡ false = rw (kept-held d S N P U k) (lt-leb 64 (d .«page_count») h) in
+      let f : leb capacity (pages-held (discoveredOf d S N P U)) ≡ false = rw (kept-held d S N P U k) (lt-leb capacity (d .«page_count») h) in
       record {
         took = rw f t;
         refused = λ e. clash e f;
@@ -227,10 +227,10 @@ pub record Called (d : Discovery) (S N P : List (List ℕ)) (U : List ℕ) (now 
   pub all-left : eqb (callNumber (r .answer)) 0 ≡ false → (r .discovery ≡ d) × (S′ ≡ S) × (N′ ≡ N) × (P′ ≡ P) × (U′ ≡ U)
 
 -- a page that is not too long arrives
-pub page-call-fits : (now : ℕ) (a : Announcement) (v : Discovered) → length (a .name) ≤ 63 → length (a .universes) ≤ 512
+pub page-call-fits : (now : ℕ) (a : Announcement) (v : Discovered) → length (a .name) ≤ most-name → length (a .universes) ≤ most-universes
     → page-call now a v ≡ (arrived now a v .0, Done (arrived now a v .1))
 unfolding page-call too-long
-page-call-fits now a v g h = rw (le-ltb 63 (length (a .name)) g, le-ltb 512 (length (a .universes)) h)
+page-call-fits now a v g h = rw (le-ltb most-name (length (a .name)) g, le-ltb most-universes (length (a .universes)) h)
 
 -- 13 is said of 64 pages only
 taken-number : (n : Note) → numberOf (told n) ≡ 0
@@ -248,13 +248,13 @@ full-number now a v e =
     clash (ap (λ (n : ℕ). eqb n 0) (taken-number (noted now a (lookup (a .cid) (v .partial))))) z)
 
 module _ (d : Discovery) (S N P : List (List ℕ)) (U : List ℕ) (k : Kept d S N P U) (now : ℕ) (a : Announcement) where
-  long-name : 63 < length (a .name) → too-long a ≡ some (length (a .name))
+  long-name : most-name < length (a .name) → too-long a ≡ some (length (a .name))
   unfolding too-long
-  long-name h = rw (lt-ltb 63 (length (a .name)) h)
+  long-name h = rw (lt-ltb most-name (length (a .name)) h)
 
-  long-list : length (a .name) ≤ 63 → 512 < length (a .universes) → too-long a ≡ some (length (a .universes))
+  long-list : length (a .name) ≤ most-name → most-universes < length (a .universes) → too-long a ≡ some (length (a .universes))
   unfolding too-long
-  long-list g h = rw (le-ltb 63 (length (a .name)) g, lt-ltb 512 (length (a .universes)) h)
+  long-list g h = rw (le-ltb most-name (length (a .name)) g, lt-ltb most-universes (length (a .universes)) h)
 
   called-long : (n : ℕ) → too-long a ≡ some n → Called d S N P U now a (record { discovery = d; answer = TooLong n }) S N P U
   unfolding page-call
@@ -266,13 +266,13 @@ module _ (d : Discovery) (S N P : List (List ℕ)) (U : List ℕ) (k : Kept d S 
     all-left = λ z. (refl, refl, refl, refl, refl);
   }
 
-  pub called-name : 63 < length (a .name) → Called d S N P U now a (record { discovery = d; answer = TooLong (length (a .name)) }) S N P U
+  pub called-name : most-name < length (a .name) → Called d S N P U now a (record { discovery = d; answer = TooLong (length (a .name)) }) S N P U
   called-name h = called-long (length (a .name)) (long-name h)
 
-  pub called-list : length (a .name) ≤ 63 → 512 < length (a .universes) → Called d S N P U now a (record { discovery = d; answer = TooLong (length (a .universes)) }) S N P U
+  pub called-list : length (a .name) ≤ most-name → most-universes < length (a .universes) → Called d S N P U now a (record { discovery = d; answer = TooLong (length (a .universes)) }) S N P U
   called-list g h = called-long (length (a .universes)) (long-list g h)
 
-  pub called-done : (r : PageArrived) (S′ N′ P′ : List (List ℕ)) (U′ : List ℕ) → length (a .name) ≤ 63 → length (a .universes) ≤ 512 → Arrival d S N P U now a r S′ N′ P′ U′
+  pub called-done : (r : PageArrived) (S′ N′ P′ : List (List ℕ)) (U′ : List ℕ) → length (a .name) ≤ most-name → length (a .universes) ≤ most-universes → Arrival d S N P U now a r S′ N′ P′ U′
       → Called d S N P U now a (record { discovery = r .discovery; answer = Done (r .answer) }) S′ N′ P′ U′
   called-done r S′ N′ P′ U′ g h t =
       let e = page-call-fits now a (discoveredOf d S N P U) g h in

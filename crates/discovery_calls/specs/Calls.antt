@@ -30,7 +30,7 @@ use Rattle.discovery_calls.specs.View.{headsOf, leavesOf, discoveredOf, 
 
 -- ── a source with one page is put behind the others of its mark ──
 module _ (d : Discovery) (S N P : List (List ℕ)) (U : List ℕ) (k : Kept d S N P U) (m now : ℕ) (a : Announcement) (f : Fitting a) (small : m < 2)
-    (absent : any (heads-of m (a .cid)) (headsOf d S N) ≡ false) (room : d .«page_count» < 64)
+    (absent : any (heads-of m (a .cid)) (headsOf d S N) ≡ false) (room : d .«page_count» < capacity)
     (n U′ : List ℕ) (name : take (length (a .name)) n ≡ a .name) (len : length U′ ≡ length U)
     (written : take (d .used + length (a .universes)) U′ ≡ take (d .used) U ++ a .universes)
     (rest : drop (d .used + length (a .universes)) U′ ≡ drop (d .used + length (a .universes)) U) where
@@ -46,14 +46,14 @@ module _ (d : Discovery) (S N P : List (List ℕ)) (U : List ℕ) (k : Kept d S 
   abbrev pub new-head : Head
   new-head = record { mark = m; cid = a .cid; name = a .name; last-page = a .last-page; reading = now }
 
-  fewer : d .«source_count» < 64
+  fewer : d .«source_count» < capacity
   fewer = omega (arith, kept-fewer d S N P U k)
 
   heads-added : headsOf one-more (set S (d .«source_count») source-row) (set N (d .«source_count») n) ≡ headsOf d S N ++ new-head ∷ []
   unfolding headsOf
   heads-added =
-      let x : length S ≡ 64 = k .source-rows in
-      let y : length N ≡ 64 = k .name-rows in
+      let x : length S ≡ capacity = k .source-rows in
+      let y : length N ≡ capacity = k .name-rows in
       let i = d .«source_count» in
       let lt = fewer in
       let p = pushed S (take i S) i source-row (omega arith) refl in
@@ -66,7 +66,7 @@ module _ (d : Discovery) (S N P : List (List ℕ)) (U : List ℕ) (k : Kept d S 
   leaves-added : leavesOf one-more (set P (d .«page_count») page-row) U′ ≡ leavesOf d P U ++ leafOf new-head (pageOf a) ∷ []
   unfolding leavesOf
   leaves-added =
-      let x : length P ≡ 64 = k .packing .rows in
+      let x : length P ≡ capacity = k .packing .rows in
       let i = d .«page_count» in
       let l = a .universes in
       let w : take (length l) l ≡ l = take-all (length l) l (omega arith) in
@@ -81,8 +81,8 @@ module _ (d : Discovery) (S N P : List (List ℕ)) (U : List ℕ) (k : Kept d S 
   source-added =
       let hs = headsOf d S N in
       let ls = leavesOf d P U in
-      let x : length P ≡ 64 = k .packing .rows in
-      let b : 32768 ≤ length U = k .packing .pool in
+      let x : length P ≡ capacity = k .packing .rows in
+      let b : pool-length ≤ length U = k .packing .pool in
       let i = d .«page_count» in
       let lt = fewer in
       record {
@@ -129,7 +129,7 @@ abbrev pub renewed-row : ℕ → List ℕ → List ℕ
 renewed-row now r = getD r 0 0 ∷ getD r 1 0 ∷ getD r 2 0 ∷ getD r 3 0 ∷ now ∷ getD r 5 0 ∷ []
 
 module _ (d : Discovery) (S N P : List (List ℕ)) (U : List ℕ) (k : Kept d S N P U) (now : ℕ) (a : Announcement) (f : Fitting a) (at : ℕ)
-    (place : at ≡ prefix (λ r. not (owned 0 (a .cid) r)) (take (d .«source_count») S)) (inside : at < d .«source_count») (room : d .«page_count» < 64)
+    (place : at ≡ prefix (λ r. not (owned 0 (a .cid) r)) (take (d .«source_count») S)) (inside : at < d .«source_count») (room : d .«page_count» < capacity)
     (P′ : List (List ℕ)) (U′ : List ℕ)
     (p : Packs (d .«page_count» + 1) (d .used + length (a .universes)) U P′ U′
     (insertAt (prefix (behind 0 (a .cid) (a .page)) (leaves (take (d .«page_count») P) U)) (record { mark = 0; cid = a .cid; page = record { number = a .page; universes = a .universes } })
@@ -150,8 +150,8 @@ module _ (d : Discovery) (S N P : List (List ℕ)) (U : List ℕ) (k : Kept d S 
   unfolding headsOf
   heads-more =
       let n = d .«source_count» in
-      let x : length S ≡ 64 = k .source-rows in
-      let w : n ≤ 64 = k .within in
+      let x : length S ≡ capacity = k .source-rows in
+      let w : n ≤ capacity = k .within in
       let r = renewed-row now (getD S at []) in
       let hs = heads (take n S) (take n N) in
       let g : getD hs at h₀ ≡ headOf (getD S at []) (getD (take n N) at []) =
@@ -262,7 +262,7 @@ ordered-listed c d t o e a =
 
 module _ (d : Discovery) (S N P : List (List ℕ)) (U : List ℕ) (k : Kept d S N P U) (c : Cid) (at : ℕ)
     (place : at ≡ prefix (λ r. not (owned 0 c r)) (take (d .«source_count») S)) (inside : at < d .«source_count»)
-    (absent : any (heads-of 1 c) (headsOf d S N) ≡ false) (S′ N′ P′ : List (List ℕ)) (s64 : length S′ ≡ 64) (n64 : length N′ ≡ 64) (p64 : length P′ ≡ 64)
+    (absent : any (heads-of 1 c) (headsOf d S N) ≡ false) (S′ N′ P′ : List (List ℕ)) (s64 : length S′ ≡ capacity) (n64 : length N′ ≡ capacity) (p64 : length P′ ≡ capacity)
     (s : take (d .«source_count») S′ ≡ removeAt at (take (d .«source_count») S) ++ listed-row (getD S at []) ∷ [])
     (n : take (d .«source_count») N′ ≡ removeAt at (take (d .«source_count») N) ++ getD N at [] ∷ [])
     (p : take (d .«page_count») P′ ≡ map (turned-row c) (take (d .«page_count») P))
@@ -278,9 +278,9 @@ module _ (d : Discovery) (S N P : List (List ℕ)) (U : List ℕ) (k : Kept d S 
   unfolding headsOf
   heads-turned-are =
       let m = d .«source_count» in
-      let x : length S ≡ 64 = k .source-rows in
-      let y : length N ≡ 64 = k .name-rows in
-      let w : m ≤ 64 = k .within in
+      let x : length S ≡ capacity = k .source-rows in
+      let y : length N ≡ capacity = k .name-rows in
+      let w : m ≤ capacity = k .within in
       let hs = heads (take m S) (take m N) in
       let q : at ≡ prefix (λ h. not (heads-of 0 c h)) hs = place ∙ sym (heads-prefix 0 c (take m S) (take m N)) in
       let l : length (removeAt at (take m S)) ≡ length (removeAt at (take m N)) =
@@ -351,7 +351,7 @@ module _ (c : Cid) (d : Discovery) (S N P : List (List ℕ)) (U : List ℕ) (d�
       ∙ a
 
   pub list-done : (at : ℕ) → at ≡ prefix (λ r. not (owned 0 c r)) (take (d₁ .«source_count») S₁) → at < d₁ .«source_count»
-      → (S′ N′ P′ : List (List ℕ)) → length S′ ≡ 64 → length N′ ≡ 64 → length P′ ≡ 64
+      → (S′ N′ P′ : List (List ℕ)) → length S′ ≡ capacity → length N′ ≡ capacity → length P′ ≡ capacity
       → take (d₁ .«source_count») S′ ≡ removeAt at (take (d₁ .«source_count») S₁) ++ listed-row (getD S₁ at []) ∷ []
       → take (d₁ .«source_count») N′ ≡ removeAt at (take (d₁ .«source_count») N₁) ++ getD N₁ at [] ∷ []
       → take (d₁ .«page_count») P′ ≡ map (turned-row c) (take (d₁ .«page_count») P₁)

@@ -16,7 +16,7 @@ use Rattle.rules.specs.declared.Cid.{Cid}
 use Rattle.rules.specs.Cid.{same, same-path}
 use Rattle.rules.specs.Age.{aged}
 use Rattle.discovery_calls.specs.declared.Discovery.{Discovery}
-use Rattle.discovery.specs.Discovery.{Page, Source, drop-source, current, swept, ended, Once, nothing-known, page-count}
+use Rattle.discovery.specs.Discovery.{Page, Source, drop-source, current, swept, ended, Once, nothing-known, page-count, capacity}
 use Rattle.discovery.specs.Kept.{dropped-none}
 use Rattle.discovery_rows.specs.Store.{Head, heads-of, pages-at, sourceOf, sources-at, viewOf, Marked, owner-self, any-sources, prefix-none}
 use Rattle.discovery_rows.specs.Leaves.{cut-leaf}
@@ -128,16 +128,16 @@ module _ (time now : ℕ) where
       unfolding headsOf row
       at-row =
           let n = d .«source_count» in
-          let x : length S ≡ 64 = k .source-rows in
-          let w : n ≤ 64 = k .within in
+          let x : length S ≡ capacity = k .source-rows in
+          let w : n ≤ capacity = k .within in
           heads-getD at (take n S) (take n N) h₀ (omega (arith, length-take n S)) ∙ ap (λ (y : List ℕ). headOf y (getD (take n N) at [])) (getD-take n S at [] inside)
 
       row-old : old-row time now row ≡ true
       unfolding row
       row-old =
           let n = d .«source_count» in
-          let x : length S ≡ 64 = k .source-rows in
-          let w : n ≤ 64 = k .within in
+          let x : length S ≡ capacity = k .source-rows in
+          let w : n ≤ capacity = k .within in
           let e : not (old-row time now (getD (take n S) (prefix (λ r. not (old-row time now r)) (take n S)) [])) ≡ false =
           prefix-stop (λ r. not (old-row time now r)) (take n S) [] (omega (arith, place, length-take n S)) in
           let f : not (old-row time now (getD S at [])) ≡ false = ap (λ (r : List ℕ). not (old-row time now r)) (sym (getD-take n S at [] inside)) ∙ ap (λ (i : ℕ). not (old-row time now (getD (take n S) i []))) place ∙ e in

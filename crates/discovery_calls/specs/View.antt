@@ -14,9 +14,9 @@ use Rattle.table.specs.Table.{keep, any}
 use Rattle.table.specs.Place.{prefix, removeAt}
 use Rattle.rules.specs.declared.Cid.{Cid}
 use Rattle.discovery_calls.specs.declared.Discovery.{Discovery}
-use Rattle.discovery.specs.Discovery.{Discovered, pages-held, nothing-known}
+use Rattle.discovery.specs.Discovery.{Discovered, pages-held, nothing-known, capacity}
 use Rattle.discovery_rows.specs.Store.{Head, Leaf, heads-of, held-by, pages-at, viewOf, Sound, Single, single-heads, keep-none, keep-single, prefix-none, prefix-any}
-use Rattle.discovery_rows.specs.Lent.{Lent, lent-none}
+use Rattle.discovery_rows.specs.Lent.{Lent, lent-none, pool-length}
 use Rattle.discovery_rows.specs.Leaves.{held-leaves, heads-leaves, pages-none}
 use Rattle.discovery_calls.specs.Moves.{without, others, leaves-of-others, view-dropped, sound-dropped}
 use Rattle.discovery_rows.specs.Rows.{owned, headOf, heads, leaves, total, Packing, Packs, length-leaves}
@@ -33,9 +33,9 @@ discoveredOf d sources names pages universes = viewOf (headsOf d sources names) 
 
 -- "tables in their order and within their counts, and lent stores as the last call left them"
 pub record Kept (d : Discovery) (sources names pages : List (List ℕ)) (universes : List ℕ) : Type 0 where
-  pub source-rows : length sources ≡ 64
-  pub name-rows : length names ≡ 64
-  pub within : d .«source_count» ≤ 64
+  pub source-rows : length sources ≡ capacity
+  pub name-rows : length names ≡ capacity
+  pub within : d .«source_count» ≤ capacity
   pub packing : Packing (d .«page_count») pages universes
   pub filled : d .used ≡ total (take (d .«page_count») pages)
   pub sound : Sound (headsOf d sources names) (leavesOf d pages universes)
@@ -49,7 +49,7 @@ pub record Holds (lent-pool : List ℕ) (d : Discovery) (sources names pages : L
 -- nothing is known, whatever the memory holds
 pub record Emptied (d : Discovery) : Type 0 where
   pub unknown : (sources names pages : List (List ℕ)) (universes : List ℕ) → discoveredOf d sources names pages universes ≡ nothing-known
-  pub kept : (sources names pages : List (List ℕ)) (universes : List ℕ) → length sources ≡ 64 → length names ≡ 64 → length pages ≡ 64 → 32768 ≤ length universes
+  pub kept : (sources names pages : List (List ℕ)) (universes : List ℕ) → length sources ≡ capacity → length names ≡ capacity → length pages ≡ capacity → pool-length ≤ length universes
       → Kept d sources names pages universes
 
 -- ── heads of rows ──
@@ -112,23 +112,23 @@ module _ (d : Discovery) (sources names pages : List (List ℕ)) (universes : Li
   pub kept-held : pages-held (discoveredOf d sources names pages universes) ≡ d .«page_count»
   unfolding discoveredOf leavesOf
   kept-held =
-      let r : length pages ≡ 64 = k .packing .rows in
-      let w : d .«page_count» ≤ 64 = k .packing .within in
+      let r : length pages ≡ capacity = k .packing .rows in
+      let w : d .«page_count» ≤ capacity = k .packing .within in
       held-leaves (headsOf d sources names) (leavesOf d pages universes) (k .sound)
       ∙ omega (arith, length-leaves (take (d .«page_count») pages) universes, length-take (d .«page_count») pages)
 
   pub length-headsOf : length (headsOf d sources names) ≡ d .«source_count»
   unfolding headsOf
   length-headsOf =
-      let r : length sources ≡ 64 = k .source-rows in
-      let w : d .«source_count» ≤ 64 = k .within in
+      let r : length sources ≡ capacity = k .source-rows in
+      let w : d .«source_count» ≤ capacity = k .within in
       omega (arith, length-heads (take (d .«source_count») sources) (take (d .«source_count») names), length-take (d .«source_count») sources)
 
   pub length-leavesOf : length (leavesOf d pages universes) ≡ d .«page_count»
   unfolding leavesOf
   length-leavesOf =
-      let r : length pages ≡ 64 = k .packing .rows in
-      let w : d .«page_count» ≤ 64 = k .packing .within in
+      let r : length pages ≡ capacity = k .packing .rows in
+      let w : d .«page_count» ≤ capacity = k .packing .within in
       omega (arith, length-leaves (take (d .«page_count») pages) universes, length-take (d .«page_count») pages)
 
   -- no more sources than pages
@@ -178,7 +178,7 @@ module _ (m : ℕ) (c : Cid) (d : Discovery) (S N P : List (List ℕ)) (U : List
       }
 
   module _ (small : m < 2) (S′ N′ P′ : List (List ℕ)) (U′ : List ℕ) (i pc used : ℕ)
-      (at : i ≡ prefix (λ r. not (owned m c r)) (take (d .«source_count») S)) (inside : i < d .«source_count») (s64 : length S′ ≡ 64) (n64 : length N′ ≡ 64)
+      (at : i ≡ prefix (λ r. not (owned m c r)) (take (d .«source_count») S)) (inside : i < d .«source_count») (s64 : length S′ ≡ capacity) (n64 : length N′ ≡ capacity)
       (s : take (d .«source_count» - 1) S′ ≡ removeAt i (take (d .«source_count») S)) (n : take (d .«source_count» - 1) N′ ≡ removeAt i (take (d .«source_count») N))
       (p : Packs pc used U P′ U′ (keep (λ l. not (held-by m c l)) (leaves (take (d .«page_count») P) U))) where
     after : Discovery
@@ -202,7 +202,7 @@ module _ (m : ℕ) (c : Cid) (d : Discovery) (S N P : List (List ℕ)) (U : List
     dropped-kept =
         let hs = headsOf d S N in
         let ls = leavesOf d P U in
-        let w : d .«source_count» ≤ 64 = k .within in
+        let w : d .«source_count» ≤ capacity = k .within in
         record {
           kept = record {
             source-rows = s64;

@@ -9,12 +9,18 @@ ghost use Rattle.table.specs.Table.{any};
 ghost use Rattle.table.specs.Place.{prefix};
 ghost use Rattle.discovery_rows.specs.Store.{heads-of};
 ghost use Rattle.discovery_rows.specs.Rows.{owned};
-ghost use Rattle.discovery.specs.Discovery.{Source, lookup, begun, extended, extend, list, noting, taken, ended, swept};
+ghost use Rattle.discovery.specs.Discovery.{Source, lookup, begun, extended, extend, list, noting, taken, ended, swept, capacity, most-name, most-universes};
 ghost use Rattle.discovery_calls.specs.Moves.{with-source};
 ghost use Rattle.discovery_calls.specs.Arrive.{Took, Arrival, Called};
 ghost use Rattle.discovery_calls.specs.View.{headsOf, discoveredOf, Kept, Holds, Emptied, Dropped};
+use discovery::NAME;
+use discovery::PAGE_UNIVERSES;
+use discovery::PAGES;
 use discovery::PageAnswer;
 use discovery::PageCall;
+use discovery_rows::HeadRows;
+use discovery_rows::NameRows;
+use discovery_rows::PageRows;
 use discovery_rows::pages::add_page;
 use discovery_rows::pages::cut_pages;
 use discovery_rows::pages::drop_pages;
@@ -52,9 +58,9 @@ impl Discovery {
     // The source of this mark goes, with its pages.
     fn drop_source(
         self,
-        sources: &mut [[u64; 6]; 64],
-        names: &mut [[u8; 63]; 64],
-        pages: &mut [[u64; 5]; 64],
+        sources: &mut HeadRows,
+        names: &mut NameRows,
+        pages: &mut PageRows,
         universes: &mut [u16],
         mark: u64,
         cid: Cid,
@@ -80,9 +86,9 @@ impl Discovery {
     // A source with its first page, put behind the others of its mark.
     fn add_source(
         self,
-        sources: &mut [[u64; 6]; 64],
-        names: &mut [[u8; 63]; 64],
-        pages: &mut [[u64; 5]; 64],
+        sources: &mut HeadRows,
+        names: &mut NameRows,
+        pages: &mut PageRows,
         universes: &mut [u16],
         reading: u64,
         mark: u64,
@@ -92,7 +98,7 @@ impl Discovery {
         name: &[u8],
         list: &[u16],
     ) -> Discovery
-        requires { ⌜ Kept self (now sources) (now names) (now pages) (now universes) × (mark < 2) × (self .«page_count» < 64) × (length (now name) ≤ 63) × (length (now list) ≤ 512) × (any (heads-of mark cid) (headsOf self (now sources) (now names)) ≡ false) ⌝ }
+        requires { ⌜ Kept self (now sources) (now names) (now pages) (now universes) × (mark < 2) × (self .«page_count» < capacity) × (length (now name) ≤ most-name) × (length (now list) ≤ most-universes) × (any (heads-of mark cid) (headsOf self (now sources) (now names)) ≡ false) ⌝ }
         ensures { λ r. ⌜ Holds (now (universes .entry)) r (now (sources .exit)) (now (names .exit)) (now (pages .exit)) (now (universes .exit)) (with-source mark (begun reading (record { cid = cid; name = now (name .entry); page = page; last-page = «last_page»; universes = now (list .entry) })) (discoveredOf self (now (sources .entry)) (now (names .entry)) (now (pages .entry)) (now (universes .entry)))) ⌝ }
     {
         let at = self.source_count;
@@ -123,9 +129,9 @@ impl Discovery {
     // One page more for the partial source at place at.
     fn extend_source(
         self,
-        sources: &mut [[u64; 6]; 64],
-        names: &[[u8; 63]; 64],
-        pages: &mut [[u64; 5]; 64],
+        sources: &mut HeadRows,
+        names: &NameRows,
+        pages: &mut PageRows,
         universes: &mut [u16],
         reading: u64,
         at: usize,
@@ -135,7 +141,7 @@ impl Discovery {
         name: &[u8],
         list: &[u16],
     ) -> Discovery
-        requires { ⌜ Kept self (now sources) (now names) (now pages) (now universes) × (self .«page_count» < 64) × (length (now name) ≤ 63) × (length (now list) ≤ 512) × (at ≡ prefix (λ row. not (owned 0 cid row)) (take (self .«source_count») (now sources))) × (at < self .«source_count») ⌝ }
+        requires { ⌜ Kept self (now sources) (now names) (now pages) (now universes) × (self .«page_count» < capacity) × (length (now name) ≤ most-name) × (length (now list) ≤ most-universes) × (at ≡ prefix (λ row. not (owned 0 cid row)) (take (self .«source_count») (now sources))) × (at < self .«source_count») ⌝ }
         ensures { λ r. ⌜ ((t : Source) → lookup cid (discoveredOf self (now (sources .entry)) (now (names .entry)) (now (pages .entry)) (now (universes .entry)) .partial) ≡ some t → Holds (now (universes .entry)) r (now (sources .exit)) (now (names .entry)) (now (pages .exit)) (now (universes .exit)) (noting (extend (extended reading (record { cid = cid; name = now (name .entry); page = page; last-page = «last_page»; universes = now (list .entry) }) t)) (discoveredOf self (now (sources .entry)) (now (names .entry)) (now (pages .entry)) (now (universes .entry))))) ⌝ }
     {
         let count = self.page_count;
@@ -155,9 +161,9 @@ impl Discovery {
     // The partial source is listed, in the place of the one listed before.
     fn list_source(
         self,
-        sources: &mut [[u64; 6]; 64],
-        names: &mut [[u8; 63]; 64],
-        pages: &mut [[u64; 5]; 64],
+        sources: &mut HeadRows,
+        names: &mut NameRows,
+        pages: &mut PageRows,
         universes: &mut [u16],
         cid: Cid,
     ) -> Discovery
@@ -183,9 +189,9 @@ impl Discovery {
     // A page of a source without a partial entry.
     fn take_first(
         self,
-        sources: &mut [[u64; 6]; 64],
-        names: &mut [[u8; 63]; 64],
-        pages: &mut [[u64; 5]; 64],
+        sources: &mut HeadRows,
+        names: &mut NameRows,
+        pages: &mut PageRows,
         universes: &mut [u16],
         reading: u64,
         cid: Cid,
@@ -194,7 +200,7 @@ impl Discovery {
         name: &[u8],
         list: &[u16],
     ) -> PageArrived
-        requires { ⌜ Kept self (now sources) (now names) (now pages) (now universes) × (self .«page_count» < 64) × (length (now name) ≤ 63) × (length (now list) ≤ 512) × (any (heads-of 0 cid) (headsOf self (now sources) (now names)) ≡ false) ⌝ }
+        requires { ⌜ Kept self (now sources) (now names) (now pages) (now universes) × (self .«page_count» < capacity) × (length (now name) ≤ most-name) × (length (now list) ≤ most-universes) × (any (heads-of 0 cid) (headsOf self (now sources) (now names)) ≡ false) ⌝ }
         ensures { λ r. ⌜ Took (now (universes .entry)) r (now (sources .exit)) (now (names .exit)) (now (pages .exit)) (now (universes .exit)) (taken reading (record { cid = cid; name = now (name .entry); page = page; last-page = «last_page»; universes = now (list .entry) }) (discoveredOf self (now (sources .entry)) (now (names .entry)) (now (pages .entry)) (now (universes .entry)))) ⌝ }
     {
         if page == 0 {
@@ -248,9 +254,9 @@ impl Discovery {
     // A further page of the partial source at place at.
     fn take_next(
         self,
-        sources: &mut [[u64; 6]; 64],
-        names: &mut [[u8; 63]; 64],
-        pages: &mut [[u64; 5]; 64],
+        sources: &mut HeadRows,
+        names: &mut NameRows,
+        pages: &mut PageRows,
         universes: &mut [u16],
         reading: u64,
         at: usize,
@@ -260,7 +266,7 @@ impl Discovery {
         name: &[u8],
         list: &[u16],
     ) -> PageArrived
-        requires { ⌜ Kept self (now sources) (now names) (now pages) (now universes) × (self .«page_count» < 64) × (length (now name) ≤ 63) × (length (now list) ≤ 512) × (at ≡ prefix (λ row. not (owned 0 cid row)) (take (self .«source_count») (now sources))) × (at < self .«source_count») ⌝ }
+        requires { ⌜ Kept self (now sources) (now names) (now pages) (now universes) × (self .«page_count» < capacity) × (length (now name) ≤ most-name) × (length (now list) ≤ most-universes) × (at ≡ prefix (λ row. not (owned 0 cid row)) (take (self .«source_count») (now sources))) × (at < self .«source_count») ⌝ }
         ensures { λ r. ⌜ Took (now (universes .entry)) r (now (sources .exit)) (now (names .exit)) (now (pages .exit)) (now (universes .exit)) (taken reading (record { cid = cid; name = now (name .entry); page = page; last-page = «last_page»; universes = now (list .entry) }) (discoveredOf self (now (sources .entry)) (now (names .entry)) (now (pages .entry)) (now (universes .entry)))) ⌝ }
     {
         let row = sources[at];
@@ -301,9 +307,9 @@ impl Discovery {
     // A page that is not too long: 13 first, then its own rules.
     fn take_page(
         self,
-        sources: &mut [[u64; 6]; 64],
-        names: &mut [[u8; 63]; 64],
-        pages: &mut [[u64; 5]; 64],
+        sources: &mut HeadRows,
+        names: &mut NameRows,
+        pages: &mut PageRows,
         universes: &mut [u16],
         reading: u64,
         cid: Cid,
@@ -312,11 +318,11 @@ impl Discovery {
         name: &[u8],
         list: &[u16],
     ) -> PageArrived
-        requires { ⌜ Kept self (now sources) (now names) (now pages) (now universes) × (length (now name) ≤ 63) × (length (now list) ≤ 512) ⌝ }
+        requires { ⌜ Kept self (now sources) (now names) (now pages) (now universes) × (length (now name) ≤ most-name) × (length (now list) ≤ most-universes) ⌝ }
         ensures { λ r. ⌜ Arrival self (now (sources .entry)) (now (names .entry)) (now (pages .entry)) (now (universes .entry)) reading (record { cid = cid; name = now (name .entry); page = page; last-page = «last_page»; universes = now (list .entry) }) r (now (sources .exit)) (now (names .exit)) (now (pages .exit)) (now (universes .exit)) ⌝ }
     {
         let page_count = self.page_count;
-        if 64 <= page_count {
+        if PAGES <= page_count {
             return PageArrived {
                 discovery: self,
                 answer: PageAnswer::PagesFull,
@@ -356,9 +362,9 @@ impl Discovery {
     // A page arrives at this reading.
     pub fn page_arrives(
         self,
-        sources: &mut [[u64; 6]; 64],
-        names: &mut [[u8; 63]; 64],
-        pages: &mut [[u64; 5]; 64],
+        sources: &mut HeadRows,
+        names: &mut NameRows,
+        pages: &mut PageRows,
         universes: &mut [u16],
         reading: u64,
         cid: Cid,
@@ -371,14 +377,14 @@ impl Discovery {
         ensures { λ r. ⌜ Called self (now (sources .entry)) (now (names .entry)) (now (pages .entry)) (now (universes .entry)) reading (record { cid = cid; name = now (name .entry); page = page; last-page = «last_page»; universes = now (list .entry) }) r (now (sources .exit)) (now (names .exit)) (now (pages .exit)) (now (universes .exit)) ⌝ }
     {
         let length = name.len();
-        if 63 < length {
+        if NAME < length {
             return PageCalled {
                 discovery: self,
                 answer: PageCall::TooLong(length),
             };
         }
         let count = list.len();
-        if 512 < count {
+        if PAGE_UNIVERSES < count {
             return PageCalled {
                 discovery: self,
                 answer: PageCall::TooLong(count),
@@ -423,9 +429,9 @@ impl Discovery {
     // A universe ends: it goes from the listed source's pages.
     pub fn terminate_universe(
         self,
-        sources: &[[u64; 6]; 64],
-        names: &[[u8; 63]; 64],
-        pages: &mut [[u64; 5]; 64],
+        sources: &HeadRows,
+        names: &NameRows,
+        pages: &mut PageRows,
         universes: &mut [u16],
         cid: Cid,
         universe: u16,
@@ -444,9 +450,9 @@ impl Discovery {
     // The sources of this age or older go, partial and listed.
     pub fn remove_expired_sources(
         self,
-        sources: &mut [[u64; 6]; 64],
-        names: &mut [[u8; 63]; 64],
-        pages: &mut [[u64; 5]; 64],
+        sources: &mut HeadRows,
+        names: &mut NameRows,
+        pages: &mut PageRows,
         universes: &mut [u16],
         time: u64,
         reading: u64,

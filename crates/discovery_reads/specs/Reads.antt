@@ -16,7 +16,7 @@ use Rattle.rules.specs.declared.Cid.{Cid}
 use Rattle.discovery_calls.specs.declared.Discovery.{Discovery}
 use Rattle.discovery_reads.specs.declared.SourceHead.{SourceHead}
 use Rattle.discovery_reads.specs.declared.PageHead.{PageHead}
-use Rattle.discovery.specs.Discovery.{Page, Source}
+use Rattle.discovery.specs.Discovery.{Page, Source, capacity}
 use Rattle.discovery_rows.specs.Store.{pages-at, sourceOf, sources-at, viewOf}
 use Rattle.discovery_rows.specs.Rows.{owned, headOf, leafAt, heads, leaves, total, amount}
 use Rattle.discovery_calls.specs.View.{headsOf, leavesOf, discoveredOf}
@@ -186,13 +186,13 @@ pub record PageAt (m : ℕ) (c : Cid) (k r : ℕ) (d : Discovery) (P : List (Lis
   pub inside : r < d .«page_count» → r < length P
 
 -- a count past the rows is the count of the rows
-pub take-within : (count n : ℕ) (rows : List (List ℕ)) → length rows ≡ 64 → n ≡ min count 64 → take n rows ≡ take count rows
+pub take-within : (count n : ℕ) (rows : List (List ℕ)) → length rows ≡ capacity → n ≡ min count capacity → take n rows ≡ take count rows
 take-within count n rows l e =
-    split (ltb 64 count)
+    split (ltb capacity count)
     (λ h.
-    let g = ltb-true 64 count h in
+    let g = ltb-true capacity count h in
     take-all n rows (omega arith) ∙ sym (take-all count rows (omega arith)))
-    (λ h. let g = ltb-false 64 count h in let z : n ≡ count = omega arith in ap (λ (m : ℕ). take m rows) z)
+    (λ h. let g = ltb-false capacity count h in let z : n ≡ count = omega arith in ap (λ (m : ℕ). take m rows) z)
 
 module _ (m : ℕ) (d : Discovery) (S N P : List (List ℕ)) (U : List ℕ) (k : ℕ) where
   source-placed : (s₀ : Source) → k < length (sources-of m d S N P U)
@@ -227,7 +227,7 @@ module _ (m : ℕ) (d : Discovery) (S N P : List (List ℕ)) (U : List ℕ) (k :
       nth-keep (marked-row m) k (take n S) [] (omega arith) .0
 
   -- as far as there are rows: a row holds it, or there are not so many
-  pub source-at : (n r : ℕ) → length S ≡ 64 → n ≡ min (d .«source_count») 64 → r ≡ nth (marked-row m) k (take n S) → r < n → SourceAt m k r d S N P U
+  pub source-at : (n r : ℕ) → length S ≡ capacity → n ≡ min (d .«source_count») capacity → r ≡ nth (marked-row m) k (take n S) → r < n → SourceAt m k r d S N P U
   source-at n r l f e h =
       let c = d .«source_count» in
       let x : r ≡ nth (marked-row m) k (take c S) = e ∙ ap (nth (marked-row m) k) (take-within c n S l f) in
@@ -237,7 +237,7 @@ module _ (m : ℕ) (d : Discovery) (S N P : List (List ℕ)) (U : List ℕ) (k :
         inside = λ g. omega arith;
       }
 
-  pub source-none : (n r : ℕ) → length S ≡ 64 → n ≡ min (d .«source_count») 64 → r ≡ nth (marked-row m) k (take n S) → n ≤ r → SourceAt m k (d .«source_count») d S N P U
+  pub source-none : (n r : ℕ) → length S ≡ capacity → n ≡ min (d .«source_count») capacity → r ≡ nth (marked-row m) k (take n S) → n ≤ r → SourceAt m k (d .«source_count») d S N P U
   source-none n r l f e h =
       let c = d .«source_count» in
       let x : r ≡ nth (marked-row m) k (take c S) = e ∙ ap (nth (marked-row m) k) (take-within c n S l f) in
@@ -279,7 +279,7 @@ module _ (m : ℕ) (c : Cid) (d : Discovery) (P : List (List ℕ)) (U : List ℕ
       let e = pages-count m c (take n P) U in
       nth-keep (owned m c) k (take n P) [] (omega arith) .0
 
-  pub page-at : (n r : ℕ) → length P ≡ 64 → n ≡ min (d .«page_count») 64 → r ≡ nth (owned m c) k (take n P) → r < n → PageAt m c k r d P U
+  pub page-at : (n r : ℕ) → length P ≡ capacity → n ≡ min (d .«page_count») capacity → r ≡ nth (owned m c) k (take n P) → r < n → PageAt m c k r d P U
   page-at n r l f e h =
       let q = d .«page_count» in
       let x : r ≡ nth (owned m c) k (take q P) = e ∙ ap (nth (owned m c) k) (take-within q n P l f) in
@@ -289,7 +289,7 @@ module _ (m : ℕ) (c : Cid) (d : Discovery) (P : List (List ℕ)) (U : List ℕ
         inside = λ g. omega arith;
       }
 
-  pub page-none : (n r : ℕ) → length P ≡ 64 → n ≡ min (d .«page_count») 64 → r ≡ nth (owned m c) k (take n P) → n ≤ r → PageAt m c k (d .«page_count») d P U
+  pub page-none : (n r : ℕ) → length P ≡ capacity → n ≡ min (d .«page_count») capacity → r ≡ nth (owned m c) k (take n P) → n ≤ r → PageAt m c k (d .«page_count») d P U
   page-none n r l f e h =
       let q = d .«page_count» in
       let x : r ≡ nth (owned m c) k (take q P) = e ∙ ap (nth (owned m c) k) (take-within q n P l f) in

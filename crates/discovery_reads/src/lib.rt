@@ -4,33 +4,39 @@ ghost use mathlib.Core.List.{List, []};
 ghost use Prim.Native.Nat.{ℕ, _+_, _≤_, _<_, min};
 ghost use lib.ListN.{length, take};
 ghost use Rattle.table.specs.Table.{keep};
+ghost use Rattle.discovery.specs.Discovery.{capacity};
 ghost use Rattle.discovery_rows.specs.Store.{pages-at};
 ghost use Rattle.discovery_rows.specs.Rows.{owned, total};
 ghost use Rattle.discovery_calls.specs.View.{leavesOf, discoveredOf};
 ghost use Rattle.discovery_reads.specs.Reads.{nth, marked-row, page-of-row, SourceAt, PageAt, HeadRead, PageRead};
+use discovery::PAGES;
 use discovery_calls::Discovery;
+use discovery_rows::HeadRow;
+use discovery_rows::HeadRows;
+use discovery_rows::PageRow;
+use discovery_rows::PageRows;
 use discovery_rows::owners::is_page_of;
 use rules::Cid;
 
 // A count, as far as there are rows.
 pub fn within(count: usize) -> usize
-    ensures { λ r. ⌜ r ≡ min count 64 ⌝ }
+    ensures { λ r. ⌜ r ≡ min count capacity ⌝ }
 {
-    if 64 < count {
-        return 64;
+    if PAGES < count {
+        return PAGES;
     }
     count
 }
 
-fn is_marked(row: [u64; 6], mark: u64) -> bool
+fn is_marked(row: HeadRow, mark: u64) -> bool
     ensures { λ r. ⌜ r ≡ marked-row mark row ⌝ }
 {
     row[0] == mark
 }
 
 // How many sources have the mark.
-fn count_sources(sources: &[[u64; 6]; 64], count: usize, mark: u64) -> usize
-    requires { ⌜ (count ≤ 64) × (length (now sources) ≡ 64) ⌝ }
+fn count_sources(sources: &HeadRows, count: usize, mark: u64) -> usize
+    requires { ⌜ (count ≤ capacity) × (length (now sources) ≡ capacity) ⌝ }
     ensures { λ r. ⌜ r ≡ length (keep (marked-row mark) (take count (now (sources .entry)))) ⌝ }
 {
     let mut n: usize = 0;
@@ -46,8 +52,8 @@ fn count_sources(sources: &[[u64; 6]; 64], count: usize, mark: u64) -> usize
 }
 
 // Where the k-th source of the mark stands, from 0; count if there are not so many.
-fn nth_source(sources: &[[u64; 6]; 64], count: usize, mark: u64, k: usize) -> usize
-    requires { ⌜ (count ≤ 64) × (length (now sources) ≡ 64) ⌝ }
+fn nth_source(sources: &HeadRows, count: usize, mark: u64, k: usize) -> usize
+    requires { ⌜ (count ≤ capacity) × (length (now sources) ≡ capacity) ⌝ }
     ensures { λ r. ⌜ r ≡ nth (marked-row mark) k (take count (now (sources .entry))) ⌝ }
 {
     let mut left = k;
@@ -68,8 +74,8 @@ fn nth_source(sources: &[[u64; 6]; 64], count: usize, mark: u64, k: usize) -> us
 }
 
 // How many pages the owner has.
-fn count_pages(pages: &[[u64; 5]; 64], count: usize, mark: u64, cid: Cid) -> usize
-    requires { ⌜ (count ≤ 64) × (length (now pages) ≡ 64) ⌝ }
+fn count_pages(pages: &PageRows, count: usize, mark: u64, cid: Cid) -> usize
+    requires { ⌜ (count ≤ capacity) × (length (now pages) ≡ capacity) ⌝ }
     ensures { λ r. ⌜ r ≡ length (keep (owned mark cid) (take count (now (pages .entry)))) ⌝ }
 {
     let mut n: usize = 0;
@@ -85,8 +91,8 @@ fn count_pages(pages: &[[u64; 5]; 64], count: usize, mark: u64, cid: Cid) -> usi
 }
 
 // Where the owner's k-th page stands, from 0; count if there are not so many.
-fn nth_page(pages: &[[u64; 5]; 64], count: usize, mark: u64, cid: Cid, k: usize) -> usize
-    requires { ⌜ (count ≤ 64) × (length (now pages) ≡ 64) ⌝ }
+fn nth_page(pages: &PageRows, count: usize, mark: u64, cid: Cid, k: usize) -> usize
+    requires { ⌜ (count ≤ capacity) × (length (now pages) ≡ capacity) ⌝ }
     ensures { λ r. ⌜ r ≡ nth (owned mark cid) k (take count (now (pages .entry))) ⌝ }
 {
     let mut left = k;
@@ -107,8 +113,8 @@ fn nth_page(pages: &[[u64; 5]; 64], count: usize, mark: u64, cid: Cid, k: usize)
 }
 
 // How many sources are partial.
-pub fn partial_count(discovery: Discovery, sources: &[[u64; 6]; 64]) -> usize
-    requires { ⌜ length (now sources) ≡ 64 ⌝ }
+pub fn partial_count(discovery: Discovery, sources: &HeadRows) -> usize
+    requires { ⌜ length (now sources) ≡ capacity ⌝ }
     ensures { λ r. ⌜ ((names pages : List (List ℕ)) (universes : List ℕ) → r ≡ length (discoveredOf discovery (now (sources .entry)) names pages universes .partial)) ⌝ }
 {
     let count = within(discovery.source_count);
@@ -116,8 +122,8 @@ pub fn partial_count(discovery: Discovery, sources: &[[u64; 6]; 64]) -> usize
 }
 
 // How many sources are listed.
-pub fn listed_count(discovery: Discovery, sources: &[[u64; 6]; 64]) -> usize
-    requires { ⌜ length (now sources) ≡ 64 ⌝ }
+pub fn listed_count(discovery: Discovery, sources: &HeadRows) -> usize
+    requires { ⌜ length (now sources) ≡ capacity ⌝ }
     ensures { λ r. ⌜ ((names pages : List (List ℕ)) (universes : List ℕ) → r ≡ length (discoveredOf discovery (now (sources .entry)) names pages universes .listed)) ⌝ }
 {
     let count = within(discovery.source_count);
@@ -125,8 +131,8 @@ pub fn listed_count(discovery: Discovery, sources: &[[u64; 6]; 64]) -> usize
 }
 
 // Which row holds the k-th partial source (mark 0) or the k-th listed one (mark 1), from 0; the count of sources if there are not so many.
-pub fn source_place(discovery: Discovery, sources: &[[u64; 6]; 64], mark: u64, k: usize) -> usize
-    requires { ⌜ length (now sources) ≡ 64 ⌝ }
+pub fn source_place(discovery: Discovery, sources: &HeadRows, mark: u64, k: usize) -> usize
+    requires { ⌜ length (now sources) ≡ capacity ⌝ }
     ensures { λ r. ⌜ ((names pages : List (List ℕ)) (universes : List ℕ) → SourceAt mark k r discovery (now (sources .entry)) names pages universes) ⌝ }
 {
     let count = within(discovery.source_count);
@@ -138,8 +144,8 @@ pub fn source_place(discovery: Discovery, sources: &[[u64; 6]; 64], mark: u64, k
 }
 
 // How many pages the source of this mark has.
-pub fn page_total(discovery: Discovery, pages: &[[u64; 5]; 64], mark: u64, cid: Cid) -> usize
-    requires { ⌜ length (now pages) ≡ 64 ⌝ }
+pub fn page_total(discovery: Discovery, pages: &PageRows, mark: u64, cid: Cid) -> usize
+    requires { ⌜ length (now pages) ≡ capacity ⌝ }
     ensures { λ r. ⌜ ((universes : List ℕ) → r ≡ length (pages-at mark (leavesOf discovery (now (pages .entry)) universes) cid)) ⌝ }
 {
     let count = within(discovery.page_count);
@@ -147,14 +153,8 @@ pub fn page_total(discovery: Discovery, pages: &[[u64; 5]; 64], mark: u64, cid: 
 }
 
 // Which row holds the k-th page of the source of this mark, from 0; the count of pages if it has not so many.
-pub fn place_of_page(
-    discovery: Discovery,
-    pages: &[[u64; 5]; 64],
-    mark: u64,
-    cid: Cid,
-    k: usize,
-) -> usize
-    requires { ⌜ length (now pages) ≡ 64 ⌝ }
+pub fn place_of_page(discovery: Discovery, pages: &PageRows, mark: u64, cid: Cid, k: usize) -> usize
+    requires { ⌜ length (now pages) ≡ capacity ⌝ }
     ensures { λ r. ⌜ ((universes : List ℕ) → PageAt mark cid k r discovery (now (pages .entry)) universes) ⌝ }
 {
     let count = within(discovery.page_count);
@@ -166,8 +166,8 @@ pub fn place_of_page(
 }
 
 // Where the universes of the page in this row begin, or most if that is past it.
-pub fn page_start(pages: &[[u64; 5]; 64], at: usize, most: usize) -> usize
-    requires { ⌜ (at ≤ 64) × (length (now pages) ≡ 64) ⌝ }
+pub fn page_start(pages: &PageRows, at: usize, most: usize) -> usize
+    requires { ⌜ (at ≤ capacity) × (length (now pages) ≡ capacity) ⌝ }
     ensures { λ r. ⌜ r ≡ min (total (take at (now (pages .entry)))) most ⌝ }
 {
     let mut start: usize = 0;
@@ -195,11 +195,11 @@ fn advance(start: usize, n: u64, most: usize) -> usize
 // The universes of the page in this row, as far as they lie in the pool; none past the last page.
 pub fn page_universes<'a>(
     discovery: Discovery,
-    pages: &[[u64; 5]; 64],
+    pages: &PageRows,
     universes: &'a [u16],
     at: usize,
 ) -> &'a [u16]
-    requires { ⌜ length (now pages) ≡ 64 ⌝ }
+    requires { ⌜ length (now pages) ≡ capacity ⌝ }
     ensures held { λ r. ⌜ (at < discovery .«page_count» → now r ≡ page-of-row (now (pages .entry)) (now (universes .entry)) at .universes) ⌝ }
     ensures past { λ r. ⌜ (discovery .«page_count» ≤ at → now r ≡ []) ⌝ }
 {
@@ -228,7 +228,7 @@ pub struct PageHead {
     pub count: u64,
 }
 
-pub fn source_head(row: [u64; 6]) -> SourceHead
+pub fn source_head(row: HeadRow) -> SourceHead
     ensures { λ r. ⌜ HeadRead row r ⌝ }
 {
     SourceHead {
@@ -242,7 +242,7 @@ pub fn source_head(row: [u64; 6]) -> SourceHead
     }
 }
 
-pub fn page_head(row: [u64; 5]) -> PageHead
+pub fn page_head(row: PageRow) -> PageHead
     ensures { λ r. ⌜ PageRead row r ⌝ }
 {
     PageHead {

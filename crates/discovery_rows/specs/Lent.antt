@@ -2,11 +2,16 @@
 -- Assumes nothing.
 use mathlib.Core.Path.{_≡_, refl, _∙_}
 use mathlib.Core.List.{List}
-use Prim.Native.Nat.{ℕ}
+use Prim.Native.Nat.{ℕ, _*_}
 use lib.ListN.{length, drop}
+use Rattle.discovery.specs.Discovery.{capacity, most-universes}
 
 abbrev pub pool-length : ℕ
 pool-length = 32768
+
+-- all pages full
+pub pool-full : pool-length ≡ capacity * most-universes
+pool-full = refl
 
 -- the pool past its 64 pages stays, and its length
 pub record Lent (universes universes′ : List ℕ) : Type 0 where

@@ -18,7 +18,7 @@ use Rattle.table.specs.Place.{append-map}
 use Rattle.table.specs.Arrays.{next}
 use Rattle.rules.specs.declared.Cid.{Cid}
 use Rattle.rules.specs.Age.{aged}
-use Rattle.discovery.specs.Discovery.{cut-page}
+use Rattle.discovery.specs.Discovery.{cut-page, most-universes, capacity}
 use Rattle.discovery_rows.specs.Store.{Head, Leaf, owner, held-by}
 use Rattle.discovery_rows.specs.Leaves.{cut-leaf}
 use Rattle.discovery_rows.specs.Pool.{further, further-read, read-first, keep-more, dropped-both, dropped-past}
@@ -57,7 +57,7 @@ total (r ∷ rs) = amount r + total rs
 -- each page has at most 512
 abbrev pub Few : List (List ℕ) → Type 0
 Few [] = Unit {0}
-Few (r ∷ rs) = (amount r ≤ 512) × Few rs
+Few (r ∷ rs) = (amount r ≤ most-universes) × Few rs
 
 -- the owner's partial page rows with a larger number
 abbrev pub larger : Cid → ℕ → List ℕ → Bool
@@ -94,16 +94,16 @@ pub total-more : (a : List (List ℕ)) (i : ℕ) → i < length a → total (tak
 unfolding total
 total-more a i h = rw (taken-more a i [] h) (omega (arith, total-append (take i a) (getD a i [] ∷ [])))
 
-pub few-at : (a : List (List ℕ)) (n i : ℕ) → Few (take n a) → i < n → i < length a → amount (getD a i []) ≤ 512
+pub few-at : (a : List (List ℕ)) (n i : ℕ) → Few (take n a) → i < n → i < length a → amount (getD a i []) ≤ most-universes
 few-at [] n i f h l = absurd (omega arith)
 few-at (r ∷ a) zero i f h l = absurd (omega arith)
 few-at (r ∷ a) (suc n) zero f h l = f .0
 few-at (r ∷ a) (suc n) (suc i) f h l = few-at a n i (f .1) (omega arith) (omega arith)
 
-pub total-few : (rs : List (List ℕ)) → Few rs → total rs ≤ 512 * length rs
+pub total-few : (rs : List (List ℕ)) → Few rs → total rs ≤ most-universes * length rs
 unfolding total
 total-few [] f = omega arith
-total-few (r ∷ rs) f = let k : amount r ≤ 512 = f .0 in omega (arith, total-few rs (f .1))
+total-few (r ∷ rs) f = let k : amount r ≤ most-universes = f .0 in omega (arith, total-few rs (f .1))
 
 pub map-more : {A B : Type 0} (f : A → B) (a : List A) (i : ℕ) (d : A) → i < length a → map f (take (i + 1) a) ≡ map f (take i a) ++ f (getD a i d) ∷ []
 map-more f a i d h = rw (taken-more a i d h) (append-map f (take i a) (getD a i d ∷ []))
@@ -177,7 +177,7 @@ unfolding leaves
 length-leaves [] us = refl
 length-leaves (r ∷ rs) us = ap suc (length-leaves rs (drop (amount r) us))
 
-pub few-append : (rs : List (List ℕ)) (r : List ℕ) → Few rs → amount r ≤ 512 → Few (rs ++ r ∷ [])
+pub few-append : (rs : List (List ℕ)) (r : List ℕ) → Few rs → amount r ≤ most-universes → Few (rs ++ r ∷ [])
 few-append [] r f h = (h, tt)
 few-append (x ∷ rs) r f h = (f .0, few-append rs r (f .1) h)
 
@@ -202,15 +202,15 @@ pub total-pushed : (A : List (List ℕ)) (w : ℕ) (r : List ℕ) → w < length
 unfolding total
 total-pushed A w r h = rw (add-one, take-suc-set A w r h) (omega (arith, total-append (take w A) (r ∷ [])))
 
-pub few-pushed : (A : List (List ℕ)) (w : ℕ) (r : List ℕ) → w < length A → Few (take w A) → amount r ≤ 512 → Few (take (w + 1) (set A w r))
+pub few-pushed : (A : List (List ℕ)) (w : ℕ) (r : List ℕ) → w < length A → Few (take w A) → amount r ≤ most-universes → Few (take (w + 1) (set A w r))
 few-pushed A w r h f k = rw (add-one, take-suc-set A w r h) (few-append (take w A) r f k)
 
 -- ── what code over the pages asks, and what it leaves ──
 pub record Packing (count : ℕ) (pages : List (List ℕ)) (universes : List ℕ) : Type 0 where
-  pub rows : length pages ≡ 64
-  pub within : count ≤ 64
+  pub rows : length pages ≡ capacity
+  pub within : count ≤ capacity
   pub few : Few (take count pages)
-  pub pool : 32768 ≤ length universes
+  pub pool : pool-length ≤ length universes
 
 -- pages and pool after a pass: packed again, with these leaves
 pub record Packs (count used : ℕ) (lent-pool : List ℕ) (pages : List (List ℕ)) (universes : List ℕ) (ls : List Leaf) : Type 0 where
@@ -225,7 +225,7 @@ pub record Pass (count : ℕ) (A₀ : List (List ℕ)) (B₀ : List ℕ) (image 
   pub looked : i ≤ count
   pub lower : kept ≤ i
   pub below : to ≤ from
-  pub rows : length A ≡ 64
+  pub rows : length A ≡ capacity
   pub pool : length B ≡ length B₀
   pub to-total : to ≡ total (take kept A)
   pub from-total : from ≡ total (take i A₀)
@@ -262,17 +262,17 @@ module _ (count : ℕ) (A₀ : List (List ℕ)) (B₀ : List ℕ) (g : Packing c
     pass-row = read-first A A₀ i [] (p .rest-rows)
 
     pass-within : i < length A₀
-    pass-within = let l : length A₀ ≡ 64 = g .rows in let m : count ≤ 64 = g .within in omega arith
+    pass-within = let l : length A₀ ≡ capacity = g .rows in let m : count ≤ capacity = g .within in omega arith
 
-    pub pass-few : amount (getD A i []) ≤ 512
+    pub pass-few : amount (getD A i []) ≤ most-universes
     pass-few = rw pass-row (few-at A₀ count i (g .few) h pass-within)
 
     pass-total : from + amount (getD A i []) ≡ total (take (i + 1) A₀)
     pass-total = rw pass-row (omega (arith, total-more A₀ i pass-within, p .from-total))
 
-    pub pass-room : from + amount (getD A i []) ≤ 32768
+    pub pass-room : from + amount (getD A i []) ≤ pool-length
     pass-room =
-        let l : length A₀ ≡ 64 = g .rows in
+        let l : length A₀ ≡ capacity = g .rows in
         omega (arith, pass-total, total-few (take (i + 1) A₀) (few-less (i + 1) count A₀ (omega arith) (g .few)), length-take (i + 1) A₀)
 
     -- the page goes
@@ -302,10 +302,10 @@ module _ (count : ℕ) (A₀ : List (List ℕ)) (B₀ : List ℕ) (g : Packing c
     pass-put image′ r B′ v k a l m t d e =
         let x : kept ≤ i = p .lower in
         let y : to ≤ from = p .below in
-        let z : length A ≡ 64 = p .rows in
+        let z : length A ≡ capacity = p .rows in
         let q : length B ≡ length B₀ = p .pool in
-        let b : 32768 ≤ length B₀ = g .pool in
-        let c : count ≤ 64 = g .within in
+        let b : pool-length ≤ length B₀ = g .pool in
+        let c : count ≤ capacity = g .within in
         let w : kept < length A = omega arith in
         record {
           looked = omega arith;
@@ -325,9 +325,9 @@ module _ (count : ℕ) (A₀ : List (List ℕ)) (B₀ : List ℕ) (g : Packing c
   pass-end image A B kept to from i p =
       let x : kept ≤ i = p .lower in
       let y : i ≤ count = p .looked in
-      let c : count ≤ 64 = g .within in
+      let c : count ≤ capacity = g .within in
       let q : length B ≡ length B₀ = p .pool in
-      let b : 32768 ≤ length B₀ = g .pool in
+      let b : pool-length ≤ length B₀ = g .pool in
       let h : from ≤ pool-length = omega (arith, p .from-total, total-few (take i A₀) (few-less i count A₀ y (g .few)), length-take i A₀, g .rows) in
       record {
         packing = record { rows = p .rows; within = omega arith; few = p .few; pool = omega arith };

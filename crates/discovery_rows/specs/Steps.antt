@@ -9,6 +9,7 @@ use lib.ListN.{length, take, drop, length-take}
 use lib.Seq.{take-take, take-at, drop-at, drop-drop}
 use Rattle.table.specs.Place.{prefix, prefix-le, insertAt}
 use Rattle.rules.specs.declared.Cid.{Cid}
+use Rattle.discovery.specs.Discovery.{most-universes, capacity}
 use Rattle.discovery_rows.specs.Store.{Leaf}
 use Rattle.discovery_rows.specs.Leaves.{behind}
 use Rattle.discovery_rows.specs.Pool.{dropped-past}
@@ -43,7 +44,7 @@ total-insert : (i : ℕ) (r : List ℕ) (rs : List (List ℕ)) → total (insert
 unfolding total
 total-insert i r rs = omega (arith, total-append (take i rs) (r ∷ drop i rs), total-parts i rs)
 
-few-insert : (i : ℕ) (r : List ℕ) (rs : List (List ℕ)) → Few rs → amount r ≤ 512 → Few (insertAt i r rs)
+few-insert : (i : ℕ) (r : List ℕ) (rs : List (List ℕ)) → Few rs → amount r ≤ most-universes → Few (insertAt i r rs)
 few-insert zero r rs f h = (h, f)
 few-insert (suc i) r [] f h = (h, tt)
 few-insert (suc i) r (x ∷ rs) f h = (f .0, few-insert i r rs (f .1) h)
@@ -53,20 +54,20 @@ pub offset-inside : (at count : ℕ) (P : List (List ℕ)) → at ≤ count → 
 offset-inside at count P h = rw (← (take-take at count P h)) (omega (arith, total-parts at (take count P)))
 
 -- there is room for one page more
-pub pool-small : (count : ℕ) (P : List (List ℕ)) (U : List ℕ) (n : ℕ) → Packing count P U → count < 64 → n ≤ 512 → total (take count P) + n ≤ 32768
+pub pool-small : (count : ℕ) (P : List (List ℕ)) (U : List ℕ) (n : ℕ) → Packing count P U → count < capacity → n ≤ most-universes → total (take count P) + n ≤ pool-length
 pool-small count P U n g h k =
-    let r : length P ≡ 64 = g .rows in
+    let r : length P ≡ capacity = g .rows in
     omega (arith, total-few (take count P) (g .few), length-take count P)
 
-pub pool-room : (count : ℕ) (P : List (List ℕ)) (U : List ℕ) (n : ℕ) → Packing count P U → count < 64 → n ≤ 512 → total (take count P) + n ≤ length U
-pool-room count P U n g h k = let b : 32768 ≤ length U = g .pool in omega (arith, pool-small count P U n g h k)
+pub pool-room : (count : ℕ) (P : List (List ℕ)) (U : List ℕ) (n : ℕ) → Packing count P U → count < capacity → n ≤ most-universes → total (take count P) + n ≤ length U
+pool-room count P U n g h k = let b : pool-length ≤ length U = g .pool in omega (arith, pool-small count P U n g h k)
 
 pub place-within : (p : List ℕ → Bool) (count : ℕ) (P : List (List ℕ)) → prefix p (take count P) ≤ count
 place-within p count P = omega (arith, prefix-le p (take count P), length-take count P)
 
 module _ (count used : ℕ) (P P′ : List (List ℕ)) (U U₁ U₂ : List ℕ) (c : Cid) (n : ℕ) (l : List ℕ) (at begin : ℕ)
-    (g : Packing count P U) (filled : used ≡ total (take count P)) (room : count < 64) (short : length l ≤ 512)
-    (place : at ≡ prefix (λ r. not (larger c n r)) (take count P)) (start : begin ≡ total (take at P)) (p64 : length P′ ≡ 64)
+    (g : Packing count P U) (filled : used ≡ total (take count P)) (room : count < capacity) (short : length l ≤ most-universes)
+    (place : at ≡ prefix (λ r. not (larger c n r)) (take count P)) (start : begin ≡ total (take at P)) (p64 : length P′ ≡ capacity)
     (rows : take (count + 1) P′ ≡ insertAt at (0 ∷ c .hi ∷ c .lo ∷ n ∷ length l ∷ []) (take count P))
     (len₁ : length U₁ ≡ length U) (len₂ : length U₂ ≡ length U₁)
     (before : take begin U₁ ≡ take begin U) (behind-it : drop (begin + length l) (take (used + length l) U₁) ≡ drop begin (take used U))
@@ -120,8 +121,8 @@ module _ (count used : ℕ) (P P′ : List (List ℕ)) (U U₁ U₂ : List ℕ) 
       (insertAt (prefix (behind 0 c n) (leaves (take count P) U)) (record { mark = 0; cid = c; page = record { number = n; universes = l } }) (leaves (take count P) U))
   unfolding leaves row rs
   page-inserted =
-      let w : count ≤ 64 = g .within in
-      let b : 32768 ≤ length U = g .pool in
+      let w : count ≤ capacity = g .within in
+      let b : pool-length ≤ length U = g .pool in
       let small : used + length l ≤ pool-length = omega (arith, filled, pool-small count P U (length l) g room short) in
       let ls = leaves (take count P) U in
       let new : Leaf = record { mark = 0; cid = c; page = record { number = n; universes = l } } in

@@ -2,8 +2,12 @@
 ghost use mathlib.Core.Path.{_≡_};
 ghost use Prim.Native.Nat.{_≤_};
 ghost use lib.ListN.{length, take};
+ghost use Rattle.discovery.specs.Discovery.{capacity};
 ghost use Rattle.discovery_rows.specs.Store.{owner};
 ghost use Rattle.discovery_rows.specs.Rows.{owned, total, Few};
+use crate::HeadRow;
+use crate::PageRow;
+use crate::PageRows;
 use rules::Cid;
 
 // The owner is this one.
@@ -16,7 +20,7 @@ pub fn is_owner(mark: u64, cid: Cid, kind: u64, source: Cid) -> bool
     cid.is_same(source)
 }
 
-pub fn is_source_of(row: [u64; 6], mark: u64, cid: Cid) -> bool
+pub fn is_source_of(row: HeadRow, mark: u64, cid: Cid) -> bool
     ensures { λ r. ⌜ r ≡ owned mark cid row ⌝ }
 {
     let own = Cid {
@@ -26,7 +30,7 @@ pub fn is_source_of(row: [u64; 6], mark: u64, cid: Cid) -> bool
     is_owner(row[0], own, mark, cid)
 }
 
-pub fn is_page_of(row: [u64; 5], mark: u64, cid: Cid) -> bool
+pub fn is_page_of(row: PageRow, mark: u64, cid: Cid) -> bool
     ensures { λ r. ⌜ r ≡ owned mark cid row ⌝ }
 {
     let own = Cid {
@@ -37,8 +41,8 @@ pub fn is_page_of(row: [u64; 5], mark: u64, cid: Cid) -> bool
 }
 
 // Where the universes of the page at place at begin.
-pub fn offset(pages: &[[u64; 5]; 64], at: usize) -> usize
-    requires { ⌜ (at ≤ 64) × (length (now pages) ≡ 64) × Few (take at (now pages)) ⌝ }
+pub fn offset(pages: &PageRows, at: usize) -> usize
+    requires { ⌜ (at ≤ capacity) × (length (now pages) ≡ capacity) × Few (take at (now pages)) ⌝ }
     ensures { λ r. ⌜ r ≡ total (take at (now (pages .entry))) ⌝ }
 {
     let mut sum: usize = 0;

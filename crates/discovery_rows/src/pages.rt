@@ -6,9 +6,12 @@ ghost use Prim.Native.Nat.{_+_, _≤_, _<_};
 ghost use lib.ListN.{length, take};
 ghost use Rattle.table.specs.Table.{keep};
 ghost use Rattle.table.specs.Place.{prefix, insertAt};
+ghost use Rattle.discovery.specs.Discovery.{capacity, most-universes};
 ghost use Rattle.discovery_rows.specs.Store.{held-by};
 ghost use Rattle.discovery_rows.specs.Leaves.{behind, cut-leaf};
-ghost use Rattle.discovery_rows.specs.Rows.{leaves, total, Packing, Packs};
+ghost use Rattle.discovery_rows.specs.Rows.{total, Packing};
+ghost use Rattle.discovery_rows.specs.Contracts.{leaves-before, packs};
+use crate::PageRows;
 use crate::owners::is_page_of;
 use crate::owners::offset;
 use crate::pool::cut_down;
@@ -27,14 +30,15 @@ pub struct Left {
 
 // The owner's pages go, and the gaps are closed.
 pub fn drop_pages(
-    pages: &mut [[u64; 5]; 64],
+    pages: &mut PageRows,
     universes: &mut [u16],
     count: usize,
     mark: u64,
     cid: Cid,
 ) -> Left
     requires { ⌜ Packing count (now pages) (now universes) ⌝ }
-    ensures { λ r. ⌜ Packs (r .«page_count») (r .used) (now (universes .entry)) (now (pages .exit)) (now (universes .exit)) (keep (λ l. not (held-by mark cid l)) (leaves (take count (now (pages .entry))) (now (universes .entry)))) ⌝ }
+    ensures { λ r. ⌜ packs (r .«page_count») (r .used) pages universes
+        (keep (λ l. not (held-by mark cid l)) (leaves-before count pages universes)) ⌝ }
 {
     let mut kept = 0;
     let mut to = 0;
@@ -63,14 +67,14 @@ pub fn drop_pages(
 
 // The universe goes from the pages of a listed source, and the gaps are closed. Answers how many universes are left.
 pub fn cut_pages(
-    pages: &mut [[u64; 5]; 64],
+    pages: &mut PageRows,
     universes: &mut [u16],
     count: usize,
     cid: Cid,
     universe: u16,
 ) -> usize
     requires { ⌜ Packing count (now pages) (now universes) ⌝ }
-    ensures { λ r. ⌜ Packs count r (now (universes .entry)) (now (pages .exit)) (now (universes .exit)) (map (cut-leaf cid universe) (leaves (take count (now (pages .entry))) (now (universes .entry)))) ⌝ }
+    ensures { λ r. ⌜ packs count r pages universes (map (cut-leaf cid universe) (leaves-before count pages universes)) ⌝ }
 {
     let mut to = 0;
     let mut from = 0;
@@ -97,7 +101,7 @@ pub fn cut_pages(
 
 // One page more for a partial source, behind its pages of no larger number.
 pub fn add_page(
-    pages: &mut [[u64; 5]; 64],
+    pages: &mut PageRows,
     universes: &mut [u16],
     count: usize,
     used: usize,
@@ -105,8 +109,12 @@ pub fn add_page(
     number: u8,
     list: &[u16],
 )
-    requires { ⌜ Packing count (now pages) (now universes) × (used ≡ total (take count (now pages))) × (count < 64) × (length (now list) ≤ 512) ⌝ }
-    ensures { λ r. ⌜ Packs (count + 1) (used + length (now (list .entry))) (now (universes .entry)) (now (pages .exit)) (now (universes .exit)) (insertAt (prefix (behind 0 cid number) (leaves (take count (now (pages .entry))) (now (universes .entry)))) (record { mark = 0; cid = cid; page = record { number = number; universes = now (list .entry) } }) (leaves (take count (now (pages .entry))) (now (universes .entry)))) ⌝ }
+    requires { ⌜ Packing count (now pages) (now universes) × (used ≡ total (take count (now pages)))
+        × (count < capacity) × (length (now list) ≤ most-universes) ⌝ }
+    ensures { λ r. let before = leaves-before count pages universes in
+        ⌜ packs (count + 1) (used + length (now (list .entry))) pages universes
+        (insertAt (prefix (behind 0 cid number) before)
+        (record { mark = 0; cid = cid; page = record { number = number; universes = now (list .entry) } }) before) ⌝ }
 {
     let n = list.len();
     let at = page_place(&*pages, count, cid, number);

@@ -5,15 +5,22 @@ ghost use mathlib.Core.List.{[], _∷_, _++_, map};
 ghost use Prim.Native.Nat.{suc, _+_, _-_, _≤_, _<_};
 ghost use lib.ListN.{length, take, getD};
 ghost use Rattle.table.specs.Place.{prefix, insertAt, removeAt};
+ghost use Rattle.discovery.specs.Discovery.{capacity, most-name};
 ghost use Rattle.discovery_rows.specs.Rows.{owned, larger, in-turn, turned-row, listed-row, old-row};
+use crate::HeadRows;
+use crate::NameRow;
+use crate::NameRows;
+use crate::PageRow;
+use crate::PageRows;
 use crate::owners::is_page_of;
 use crate::owners::is_source_of;
+use discovery::NAME;
 use rules::Cid;
 use rules::has_aged;
 
 // Where the source stands; count if nowhere.
-pub fn find_source(sources: &[[u64; 6]; 64], count: usize, mark: u64, cid: Cid) -> usize
-    requires { ⌜ (count ≤ 64) × (length (now sources) ≡ 64) ⌝ }
+pub fn find_source(sources: &HeadRows, count: usize, mark: u64, cid: Cid) -> usize
+    requires { ⌜ (count ≤ capacity) × (length (now sources) ≡ capacity) ⌝ }
     ensures { λ r. ⌜ r ≡ prefix (λ row. not (owned mark cid row)) (take count (now (sources .entry))) ⌝ }
 {
     let mut i = 0;
@@ -28,8 +35,8 @@ pub fn find_source(sources: &[[u64; 6]; 64], count: usize, mark: u64, cid: Cid) 
 }
 
 // Where the first source of this age stands; count if there is none.
-pub fn find_expired(sources: &[[u64; 6]; 64], count: usize, time: u64, reading: u64) -> usize
-    requires { ⌜ (count ≤ 64) × (length (now sources) ≡ 64) ⌝ }
+pub fn find_expired(sources: &HeadRows, count: usize, time: u64, reading: u64) -> usize
+    requires { ⌜ (count ≤ capacity) × (length (now sources) ≡ capacity) ⌝ }
     ensures { λ r. ⌜ r ≡ prefix (λ row. not (old-row time reading row)) (take count (now (sources .entry))) ⌝ }
 {
     let mut i = 0;
@@ -44,9 +51,10 @@ pub fn find_expired(sources: &[[u64; 6]; 64], count: usize, time: u64, reading: 
 }
 
 // The row at place at taken out of the first count.
-pub fn remove_source(sources: &mut [[u64; 6]; 64], count: usize, at: usize)
-    requires { ⌜ (count ≤ 64) × (at < count) × (length (now sources) ≡ 64) ⌝ }
-    ensures { λ r. ⌜ (length (now (sources .exit)) ≡ 64) × (take (count - 1) (now (sources .exit)) ≡ removeAt at (take count (now (sources .entry)))) ⌝ }
+pub fn remove_source(sources: &mut HeadRows, count: usize, at: usize)
+    requires { ⌜ (count ≤ capacity) × (at < count) × (length (now sources) ≡ capacity) ⌝ }
+    ensures { λ r. ⌜ (length (now (sources .exit)) ≡ capacity)
+        × (take (count - 1) (now (sources .exit)) ≡ removeAt at (take count (now (sources .entry)))) ⌝ }
 {
     let last = count - 1;
     let mut to = at;
@@ -57,9 +65,10 @@ pub fn remove_source(sources: &mut [[u64; 6]; 64], count: usize, at: usize)
     }
 }
 
-pub fn remove_name(names: &mut [[u8; 63]; 64], count: usize, at: usize)
-    requires { ⌜ (count ≤ 64) × (at < count) × (length (now names) ≡ 64) ⌝ }
-    ensures { λ r. ⌜ (length (now (names .exit)) ≡ 64) × (take (count - 1) (now (names .exit)) ≡ removeAt at (take count (now (names .entry)))) ⌝ }
+pub fn remove_name(names: &mut NameRows, count: usize, at: usize)
+    requires { ⌜ (count ≤ capacity) × (at < count) × (length (now names) ≡ capacity) ⌝ }
+    ensures { λ r. ⌜ (length (now (names .exit)) ≡ capacity)
+        × (take (count - 1) (now (names .exit)) ≡ removeAt at (take count (now (names .entry)))) ⌝ }
 {
     let last = count - 1;
     let mut to = at;
@@ -71,14 +80,11 @@ pub fn remove_name(names: &mut [[u8; 63]; 64], count: usize, at: usize)
 }
 
 // A partial source's row moved to the end as a listed one's, with its name.
-pub fn turn_source(
-    sources: &mut [[u64; 6]; 64],
-    names: &mut [[u8; 63]; 64],
-    count: usize,
-    at: usize,
-)
-    requires { ⌜ (count ≤ 64) × (at < count) × (length (now sources) ≡ 64) × (length (now names) ≡ 64) ⌝ }
-    ensures { λ r. ⌜ (length (now (sources .exit)) ≡ 64) × (length (now (names .exit)) ≡ 64) × (take count (now (sources .exit)) ≡ removeAt at (take count (now (sources .entry))) ++ listed-row (getD (now (sources .entry)) at []) ∷ []) × (take count (now (names .exit)) ≡ removeAt at (take count (now (names .entry))) ++ getD (now (names .entry)) at [] ∷ []) ⌝ }
+pub fn turn_source(sources: &mut HeadRows, names: &mut NameRows, count: usize, at: usize)
+    requires { ⌜ (count ≤ capacity) × (at < count) × (length (now sources) ≡ capacity) × (length (now names) ≡ capacity) ⌝ }
+    ensures { λ r. ⌜ (length (now (sources .exit)) ≡ capacity) × (length (now (names .exit)) ≡ capacity)
+        × (take count (now (sources .exit)) ≡ removeAt at (take count (now (sources .entry))) ++ listed-row (getD (now (sources .entry)) at []) ∷ [])
+        × (take count (now (names .exit)) ≡ removeAt at (take count (now (names .entry))) ++ getD (now (names .entry)) at [] ∷ []) ⌝ }
 {
     let row = sources[at];
     let name = names[at];
@@ -91,11 +97,11 @@ pub fn turn_source(
 }
 
 // A name's bytes in a row of names.
-pub fn name_row(name: &[u8]) -> [u8; 63]
-    requires { ⌜ length (now name) ≤ 63 ⌝ }
+pub fn name_row(name: &[u8]) -> NameRow
+    requires { ⌜ length (now name) ≤ most-name ⌝ }
     ensures { λ r. ⌜ take (length (now (name .entry))) r ≡ now (name .entry) ⌝ }
 {
-    let mut row = [0; 63];
+    let mut row = [0; NAME];
     let mut i = 0;
     while i < name.len() {
         row[i] = name[i];
@@ -104,7 +110,7 @@ pub fn name_row(name: &[u8]) -> [u8; 63]
     row
 }
 
-fn is_larger(row: [u64; 5], cid: Cid, number: u8) -> bool
+fn is_larger(row: PageRow, cid: Cid, number: u8) -> bool
     ensures { λ r. ⌜ r ≡ larger cid number row ⌝ }
 {
     if is_page_of(row, 0, cid) {
@@ -114,8 +120,8 @@ fn is_larger(row: [u64; 5], cid: Cid, number: u8) -> bool
 }
 
 // Where a partial source's new page goes: before its first page with a larger number.
-pub fn page_place(pages: &[[u64; 5]; 64], count: usize, cid: Cid, number: u8) -> usize
-    requires { ⌜ (count ≤ 64) × (length (now pages) ≡ 64) ⌝ }
+pub fn page_place(pages: &PageRows, count: usize, cid: Cid, number: u8) -> usize
+    requires { ⌜ (count ≤ capacity) × (length (now pages) ≡ capacity) ⌝ }
     ensures { λ r. ⌜ r ≡ prefix (λ row. not (larger cid number row)) (take count (now (pages .entry))) ⌝ }
 {
     let mut i = 0;
@@ -130,9 +136,10 @@ pub fn page_place(pages: &[[u64; 5]; 64], count: usize, cid: Cid, number: u8) ->
 }
 
 // One row more, before place at.
-pub fn insert_page(pages: &mut [[u64; 5]; 64], count: usize, at: usize, row: [u64; 5])
-    requires { ⌜ (count < 64) × (at ≤ count) × (length (now pages) ≡ 64) ⌝ }
-    ensures { λ r. ⌜ (length (now (pages .exit)) ≡ 64) × (take (count + 1) (now (pages .exit)) ≡ insertAt at row (take count (now (pages .entry)))) ⌝ }
+pub fn insert_page(pages: &mut PageRows, count: usize, at: usize, row: PageRow)
+    requires { ⌜ (count < capacity) × (at ≤ count) × (length (now pages) ≡ capacity) ⌝ }
+    ensures { λ r. ⌜ (length (now (pages .exit)) ≡ capacity)
+        × (take (count + 1) (now (pages .exit)) ≡ insertAt at row (take count (now (pages .entry)))) ⌝ }
 {
     let mut carried = row;
     let mut i = at;
@@ -146,9 +153,10 @@ pub fn insert_page(pages: &mut [[u64; 5]; 64], count: usize, at: usize, row: [u6
 }
 
 // A partial source's page rows become a listed one's.
-pub fn turn_pages(pages: &mut [[u64; 5]; 64], count: usize, cid: Cid)
-    requires { ⌜ (count ≤ 64) × (length (now pages) ≡ 64) ⌝ }
-    ensures { λ r. ⌜ (length (now (pages .exit)) ≡ 64) × (take count (now (pages .exit)) ≡ map (turned-row cid) (take count (now (pages .entry)))) ⌝ }
+pub fn turn_pages(pages: &mut PageRows, count: usize, cid: Cid)
+    requires { ⌜ (count ≤ capacity) × (length (now pages) ≡ capacity) ⌝ }
+    ensures { λ r. ⌜ (length (now (pages .exit)) ≡ capacity)
+        × (take count (now (pages .exit)) ≡ map (turned-row cid) (take count (now (pages .entry)))) ⌝ }
 {
     let mut i = 0;
     while i < count {
@@ -164,8 +172,8 @@ pub fn turn_pages(pages: &mut [[u64; 5]; 64], count: usize, cid: Cid)
 }
 
 // Places 0 to last page hold exactly those page numbers.
-pub fn has_all_pages(pages: &[[u64; 5]; 64], count: usize, cid: Cid, last_page: u64) -> bool
-    requires { ⌜ (count ≤ 64) × (length (now pages) ≡ 64) ⌝ }
+pub fn has_all_pages(pages: &PageRows, count: usize, cid: Cid, last_page: u64) -> bool
+    requires { ⌜ (count ≤ capacity) × (length (now pages) ≡ capacity) ⌝ }
     ensures { λ r. ⌜ r ≡ in-turn cid 0 (suc «last_page») (take count (now (pages .entry))) ⌝ }
 {
     let mut next: u64 = 0;

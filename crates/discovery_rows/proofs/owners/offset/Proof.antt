@@ -6,11 +6,12 @@ use native.Mathlib.Omega.{arith}
 use lib.ListN.{take}
 use Rattle.discovery_rows.specs.Rows.{total, total-more, few-at}
 use borrow.Author.Needs.{needs}
+use Rattle.discovery.specs.Discovery.{most-universes}
 use Rattle.discovery_rows.proofs.owners.offset.Statement.{statement}
 use Rattle.discovery_rows.proofs.owners.offset.Tie as tie
 
 abbrev Inv-loop : tie.InvT-loop
-Inv-loop pages at sum₀ i₀ sum i = (i ≤ at) × (sum ≡ total (take i pages)) × (sum ≤ 512 * i)
+Inv-loop pages at sum₀ i₀ sum i = (i ≤ at) × (sum ≡ total (take i pages)) × (sum ≤ most-universes * i)
 
 abbrev μ-loop : tie.MeasureT-loop
 μ-loop pages at sum₀ i₀ sum i = at - i

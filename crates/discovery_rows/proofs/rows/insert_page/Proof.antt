@@ -8,12 +8,13 @@ use lib.ListN.{length, take, drop, length-set}
 use lib.Seq.{take-take}
 use Rattle.table.specs.Place.{insertAt}
 use Rattle.table.specs.Arrays.{carry, laid}
+use Rattle.discovery.specs.Discovery.{capacity}
 use borrow.Author.Needs.{needs}
 use Rattle.discovery_rows.proofs.rows.insert_page.Statement.{statement}
 use Rattle.discovery_rows.proofs.rows.insert_page.Tie as tie
 
 abbrev Inv-loop : tie.InvT-loop
-Inv-loop pages₀ count at carried₀ i₀ pages carried i = (i ≤ count) × (length pages ≡ 64) × (take i pages ++ carried ∷ drop i (take count pages) ≡ insertAt at carried₀ (take count pages₀))
+Inv-loop pages₀ count at carried₀ i₀ pages carried i = (i ≤ count) × (length pages ≡ capacity) × (take i pages ++ carried ∷ drop i (take count pages) ≡ insertAt at carried₀ (take count pages₀))
 
 abbrev μ-loop : tie.MeasureT-loop
 μ-loop pages₀ count at carried₀ i₀ pages carried i = count - i

@@ -8,11 +8,12 @@ use lib.ListN.{length, take, getD, length-set}
 use lib.Seq.{take-all, take-suc}
 use Rattle.discovery_rows.specs.Pool.{pushed}
 use borrow.Author.Needs.{needs}
+use Rattle.discovery.specs.Discovery.{most-name}
 use Rattle.discovery_rows.proofs.rows.name_row.Statement.{statement}
 use Rattle.discovery_rows.proofs.rows.name_row.Tie as tie
 
 abbrev Inv-loop : tie.InvT-loop
-Inv-loop name row₀ i₀ row i = (i ≤ length name) × (length row ≡ 63) × (take i row ≡ take i name)
+Inv-loop name row₀ i₀ row i = (i ≤ length name) × (length row ≡ most-name) × (take i row ≡ take i name)
 
 abbrev μ-loop : tie.MeasureT-loop
 μ-loop name row₀ i₀ row i = length name - i

@@ -9,12 +9,13 @@ use lib.ListN.{length, take, drop, length-set}
 use lib.Seq.{take-take}
 use Rattle.table.specs.Place.{removeAt}
 use Rattle.table.specs.Arrays.{spent, move}
+use Rattle.discovery.specs.Discovery.{capacity}
 use borrow.Author.Needs.{needs}
 use Rattle.discovery_rows.proofs.rows.remove_name.Statement.{statement}
 use Rattle.discovery_rows.proofs.rows.remove_name.Tie as tie
 
 abbrev Inv-loop : tie.InvT-loop
-Inv-loop names₀ count at last to₀ names to = (to ≤ last) × (length names ≡ 64) × (take to names ++ drop (to + 1) (take count names) ≡ removeAt at (take count names₀))
+Inv-loop names₀ count at last to₀ names to = (to ≤ last) × (length names ≡ capacity) × (take to names ++ drop (to + 1) (take count names) ≡ removeAt at (take count names₀))
 
 abbrev μ-loop : tie.MeasureT-loop
 μ-loop names₀ count at last to₀ names to = last - to

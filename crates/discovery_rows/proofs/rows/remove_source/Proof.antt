@@ -9,12 +9,13 @@ use lib.ListN.{length, take, drop, length-set}
 use lib.Seq.{take-take}
 use Rattle.table.specs.Place.{removeAt}
 use Rattle.table.specs.Arrays.{spent, move}
+use Rattle.discovery.specs.Discovery.{capacity}
 use borrow.Author.Needs.{needs}
 use Rattle.discovery_rows.proofs.rows.remove_source.Statement.{statement}
 use Rattle.discovery_rows.proofs.rows.remove_source.Tie as tie
 
 abbrev Inv-loop : tie.InvT-loop
-Inv-loop sources₀ count at last to₀ sources to = (to ≤ last) × (length sources ≡ 64) × (take to sources ++ drop (to + 1) (take count sources) ≡ removeAt at (take count sources₀))
+Inv-loop sources₀ count at last to₀ sources to = (to ≤ last) × (length sources ≡ capacity) × (take to sources ++ drop (to + 1) (take count sources) ≡ removeAt at (take count sources₀))
 
 abbrev μ-loop : tie.MeasureT-loop
 μ-loop sources₀ count at last to₀ sources to = last - to

@@ -9,11 +9,12 @@ use lib.ListN.{length, take, drop, getD, length-set}
 use Rattle.discovery_rows.specs.Rows.{owned, turned-row, taken-more, map-more}
 use Rattle.discovery_rows.specs.Pool.{pushed, further-read, further, read-first}
 use borrow.Author.Needs.{needs}
+use Rattle.discovery.specs.Discovery.{capacity}
 use Rattle.discovery_rows.proofs.rows.turn_pages.Statement.{statement}
 use Rattle.discovery_rows.proofs.rows.turn_pages.Tie as tie
 
 abbrev Inv-loop : tie.InvT-loop
-Inv-loop pages₀ count cid i₀ pages i = (i ≤ count) × (length pages ≡ 64) × (take i pages ≡ map (turned-row cid) (take i pages₀)) × (drop i pages ≡ drop i pages₀)
+Inv-loop pages₀ count cid i₀ pages i = (i ≤ count) × (length pages ≡ capacity) × (take i pages ≡ map (turned-row cid) (take i pages₀)) × (drop i pages ≡ drop i pages₀)
 
 abbrev μ-loop : tie.MeasureT-loop
 μ-loop pages₀ count cid i₀ pages i = count - i
@@ -59,7 +60,7 @@ loop-again c =
     let w = c .before .before .before .before .loop in
     let s = c .before .before .before .before .before in
     let a = s .args .pages .now in
-    let l : length a ≡ 64 = s .pre .1 in
+    let l : length a ≡ capacity = s .pre .1 in
     let row = getD (w .pages) (w .i) [] in
     let t : owned 0 (s .args .cid) row ≡ true = sym (c .before .is-page-of .ensures) ∙ c .if1 .taken in
     let e : row ≡ getD a (w .i) [] = read-first (w .pages) a (w .i) [] (w .inv .3) in
@@ -84,7 +85,7 @@ loop-again-2 c =
     let w = c .before .before .before .before .loop in
     let s = c .before .before .before .before .before in
     let a = s .args .pages .now in
-    let l : length a ≡ 64 = s .pre .1 in
+    let l : length a ≡ capacity = s .pre .1 in
     let row = getD (w .pages) (w .i) [] in
     let t : owned 0 (s .args .cid) row ≡ false = sym (c .before .is-page-of .ensures) ∙ c .if1 .left in
     let e : row ≡ getD a (w .i) [] = read-first (w .pages) a (w .i) [] (w .inv .3) in

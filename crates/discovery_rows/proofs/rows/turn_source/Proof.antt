@@ -6,6 +6,7 @@ use Prim.Native.Nat.{ℕ, _-_, _+_}
 use native.Mathlib.Omega.{arith}
 use lib.ListN.{length, take, getD, set, length-set}
 use Rattle.table.specs.Place.{removeAt}
+use Rattle.discovery.specs.Discovery.{capacity}
 use Rattle.discovery_rows.specs.Pool.{pushed}
 use borrow.Author.Needs.{needs}
 use Rattle.discovery_rows.proofs.rows.turn_source.Statement.{statement}
@@ -72,8 +73,8 @@ returns c =
     let name = getD (v .names .now) (v .at) [] in
     let S = x .last .0 in
     let N = y .last .0 in
-    let l : length S ≡ 64 = x .ensures .0 in
-    let m : length N ≡ 64 = y .ensures .0 in (
+    let l : length S ≡ capacity = x .ensures .0 in
+    let m : length N ≡ capacity = y .ensures .0 in (
       length-set S last new ∙ l,
       length-set N last name ∙ m,
       ap (λ (k : ℕ). take k (set S last new)) e ∙ pushed S (removeAt (v .at) (take (v .count) (v .sources .now))) last new (omega arith) (x .ensures .1),
