@@ -22,7 +22,7 @@ use Rattle.discovery_calls.specs.declared.PageCalled.{PageCalled}
 use Rattle.discovery.specs.declared.PageCall.{PageCall}
 use Rattle.discovery.specs.declared.PageCall.the-variants.{Done, TooLong}
 use Rattle.discovery.specs.declared.PageAnswer.the-variants.{Taken, Listed, PagesFull}
-use Rattle.discovery.specs.Discovery.{Source, Discovered, Announcement, Note, begin, extend, list, told, lookup, drop-source, relisted, updated, numbered, complete, extended, begun, noted, noting, taken, arrived, too-long, page-call, numberOf, callNumber, pages-held, capacity, most-name, most-universes}
+use Rattle.discovery.specs.Discovery.{Source, Discovered, Announcement, Note, begin, extend, list, told, lookup, drop-source, relisted, updated, numbered, complete, extended, begun, noted, noting, taken, arrived, too-long, page-call, numberOf, callNumber, pages-held, capacity, overfull, most-name, most-universes}
 use Rattle.discovery_rows.specs.Lent.{Lent, lent-none, lent-then}
 use Rattle.discovery.specs.Laws.{none-lookup, lookup-cid, partial-noting, extended-cid, extended-last}
 use Rattle.discovery.specs.Kept.{dropped-none, count-keep}
@@ -195,13 +195,13 @@ module _ (d : Discovery) (S N P : List (List ℕ)) (U : List ℕ) (now : ℕ) (a
 pub record Arrival (d : Discovery) (S N P : List (List ℕ)) (U : List ℕ) (now : ℕ) (a : Announcement) (r : PageArrived) (S′ N′ P′ : List (List ℕ)) (U′ : List ℕ) : Type 0 where
   pub took : Took U r S′ N′ P′ U′ (arrived now a (discoveredOf d S N P U))
   -- a page that is refused leaves all
-  pub refused : leb capacity (pages-held (discoveredOf d S N P U)) ≡ true → (r .discovery ≡ d) × (S′ ≡ S) × (N′ ≡ N) × (P′ ≡ P) × (U′ ≡ U)
+  pub refused : overfull a (discoveredOf d S N P U) ≡ true → (r .discovery ≡ d) × (S′ ≡ S) × (N′ ≡ N) × (P′ ≡ P) × (U′ ≡ U)
 
 module _ (d : Discovery) (S N P : List (List ℕ)) (U : List ℕ) (k : Kept d S N P U) (now : ℕ) (a : Announcement) where
   pub arrival-full : capacity ≤ d .«page_count» → Arrival d S N P U now a (record { discovery = d; answer = PagesFull }) S N P U
   unfolding arrived
   arrival-full h =
-      let f : leb capacity (pages-held (discoveredOf d S N P U)) ≡ true = rw (kept-held d S N P U k) (le-leb capacity (d .«page_count») h) in
+      let f : overfull a (discoveredOf d S N P U) ≡ true = rw (kept-held d S N P U k) (le-leb capacity (d .«page_count») h) in
       record {
         took = record { kept = k; seen = rw f; answered = rw f; lent = lent-none U };
         refused = λ e. (refl, refl, refl, refl, refl);
@@ -211,7 +211,7 @@ module _ (d : Discovery) (S N P : List (List ℕ)) (U : List ℕ) (k : Kept d S 
       → Took U r S′ N′ P′ U′ (taken now a (discoveredOf d S N P U)) → Arrival d S N P U now a r S′ N′ P′ U′
   unfolding arrived
   arrival-taken r S′ N′ P′ U′ h t =
-      let f : leb capacity (pages-held (discoveredOf d S N P U)) ≡ false = rw (kept-held d S N P U k) (lt-leb capacity (d .«page_count») h) in
+      let f : overfull a (discoveredOf d S N P U) ≡ false = rw (kept-held d S N P U k) (lt-leb capacity (d .«page_count») h) in
       record {
         took = rw f t;
         refused = λ e. clash e f;
@@ -238,10 +238,10 @@ taken-number (begin s) = refl
 taken-number (extend s) = refl
 taken-number (list s) = refl
 
-full-number : (now : ℕ) (a : Announcement) (v : Discovered) → eqb (numberOf (arrived now a v .1)) 0 ≡ false → leb capacity (pages-held v) ≡ true
+full-number : (now : ℕ) (a : Announcement) (v : Discovered) → eqb (numberOf (arrived now a v .1)) 0 ≡ false → overfull a v ≡ true
 unfolding arrived taken
 full-number now a v e =
-    split (leb capacity (pages-held v))
+    split (overfull a v)
     (λ h. h)
     (λ h.
     let z : eqb (numberOf (told (noted now a (lookup (a .cid) (v .partial))))) 0 ≡ false = rw h at e in

@@ -11,8 +11,8 @@ ghost use Rattle.discovery_rows.specs.Store.{heads-of};
 ghost use Rattle.discovery_rows.specs.Rows.{owned};
 ghost use Rattle.discovery.specs.Discovery.{Source, lookup, begun, extended, extend, list, noting, taken, ended, swept, capacity, most-name, most-universes};
 ghost use Rattle.discovery_calls.specs.Moves.{with-source};
-ghost use Rattle.discovery_calls.specs.Arrive.{Took, Arrival, Called};
-ghost use Rattle.discovery_calls.specs.View.{headsOf, discoveredOf, Kept, Holds, Emptied, Dropped};
+ghost use Rattle.discovery_calls.specs.View.{headsOf, Kept, Emptied};
+ghost use Rattle.discovery_calls.specs.Contracts.{lent, known, announcement, holds, took, dropped, arrival, called};
 use discovery::NAME;
 use discovery::PAGE_UNIVERSES;
 use discovery::PAGES;
@@ -66,7 +66,7 @@ impl Discovery {
         cid: Cid,
     ) -> Discovery
         requires { ⌜ Kept self (now sources) (now names) (now pages) (now universes) × (mark < 2) ⌝ }
-        ensures { λ r. ⌜ Dropped mark cid self (now (sources .entry)) (now (names .entry)) (now (pages .entry)) (now (universes .entry)) r (now (sources .exit)) (now (names .exit)) (now (pages .exit)) (now (universes .exit)) ⌝ }
+        ensures { λ r. let m = lent sources names pages universes in ⌜ dropped mark cid self m r ⌝ }
     {
         let count = self.source_count;
         let at = find_source(&*sources, count, mark, cid);
@@ -98,8 +98,11 @@ impl Discovery {
         name: &[u8],
         list: &[u16],
     ) -> Discovery
-        requires { ⌜ Kept self (now sources) (now names) (now pages) (now universes) × (mark < 2) × (self .«page_count» < capacity) × (length (now name) ≤ most-name) × (length (now list) ≤ most-universes) × (any (heads-of mark cid) (headsOf self (now sources) (now names)) ≡ false) ⌝ }
-        ensures { λ r. ⌜ Holds (now (universes .entry)) r (now (sources .exit)) (now (names .exit)) (now (pages .exit)) (now (universes .exit)) (with-source mark (begun reading (record { cid = cid; name = now (name .entry); page = page; last-page = «last_page»; universes = now (list .entry) })) (discoveredOf self (now (sources .entry)) (now (names .entry)) (now (pages .entry)) (now (universes .entry)))) ⌝ }
+        requires { ⌜ Kept self (now sources) (now names) (now pages) (now universes) × (mark < 2)
+            × (self .«page_count» < capacity) × (length (now name) ≤ most-name) × (length (now list) ≤ most-universes)
+            × (any (heads-of mark cid) (headsOf self (now sources) (now names)) ≡ false) ⌝ }
+        ensures { λ r. let m = lent sources names pages universes in
+            ⌜ holds m r (with-source mark (begun reading (announcement cid name page «last_page» list)) (known self (m .entry))) ⌝ }
     {
         let at = self.source_count;
         let count = self.page_count;
@@ -141,8 +144,12 @@ impl Discovery {
         name: &[u8],
         list: &[u16],
     ) -> Discovery
-        requires { ⌜ Kept self (now sources) (now names) (now pages) (now universes) × (self .«page_count» < capacity) × (length (now name) ≤ most-name) × (length (now list) ≤ most-universes) × (at ≡ prefix (λ row. not (owned 0 cid row)) (take (self .«source_count») (now sources))) × (at < self .«source_count») ⌝ }
-        ensures { λ r. ⌜ ((t : Source) → lookup cid (discoveredOf self (now (sources .entry)) (now (names .entry)) (now (pages .entry)) (now (universes .entry)) .partial) ≡ some t → Holds (now (universes .entry)) r (now (sources .exit)) (now (names .entry)) (now (pages .exit)) (now (universes .exit)) (noting (extend (extended reading (record { cid = cid; name = now (name .entry); page = page; last-page = «last_page»; universes = now (list .entry) }) t)) (discoveredOf self (now (sources .entry)) (now (names .entry)) (now (pages .entry)) (now (universes .entry))))) ⌝ }
+        requires { ⌜ Kept self (now sources) (now names) (now pages) (now universes)
+            × (self .«page_count» < capacity) × (length (now name) ≤ most-name) × (length (now list) ≤ most-universes)
+            × (at ≡ prefix (λ row. not (owned 0 cid row)) (take (self .«source_count») (now sources))) × (at < self .«source_count») ⌝ }
+        ensures { λ r. let m = lent sources names pages universes in
+            ⌜ ((t : Source) → lookup cid (known self (m .entry) .partial) ≡ some t →
+            holds m r (noting (extend (extended reading (announcement cid name page «last_page» list) t)) (known self (m .entry)))) ⌝ }
     {
         let count = self.page_count;
         let used = self.used;
@@ -167,8 +174,11 @@ impl Discovery {
         universes: &mut [u16],
         cid: Cid,
     ) -> Discovery
-        requires { ⌜ Kept self (now sources) (now names) (now pages) (now universes) × (any (heads-of 0 cid) (headsOf self (now sources) (now names)) ≡ true) ⌝ }
-        ensures { λ r. ⌜ ((t : Source) → lookup cid (discoveredOf self (now (sources .entry)) (now (names .entry)) (now (pages .entry)) (now (universes .entry)) .partial) ≡ some t → Holds (now (universes .entry)) r (now (sources .exit)) (now (names .exit)) (now (pages .exit)) (now (universes .exit)) (noting (list t) (discoveredOf self (now (sources .entry)) (now (names .entry)) (now (pages .entry)) (now (universes .entry))))) ⌝ }
+        requires { ⌜ Kept self (now sources) (now names) (now pages) (now universes)
+            × (any (heads-of 0 cid) (headsOf self (now sources) (now names)) ≡ true) ⌝ }
+        ensures { λ r. let m = lent sources names pages universes in
+            ⌜ ((t : Source) → lookup cid (known self (m .entry) .partial) ≡ some t →
+            holds m r (noting (list t) (known self (m .entry)))) ⌝ }
     {
         let d = self.drop_source(
             &mut *sources,
@@ -200,8 +210,11 @@ impl Discovery {
         name: &[u8],
         list: &[u16],
     ) -> PageArrived
-        requires { ⌜ Kept self (now sources) (now names) (now pages) (now universes) × (self .«page_count» < capacity) × (length (now name) ≤ most-name) × (length (now list) ≤ most-universes) × (any (heads-of 0 cid) (headsOf self (now sources) (now names)) ≡ false) ⌝ }
-        ensures { λ r. ⌜ Took (now (universes .entry)) r (now (sources .exit)) (now (names .exit)) (now (pages .exit)) (now (universes .exit)) (taken reading (record { cid = cid; name = now (name .entry); page = page; last-page = «last_page»; universes = now (list .entry) }) (discoveredOf self (now (sources .entry)) (now (names .entry)) (now (pages .entry)) (now (universes .entry)))) ⌝ }
+        requires { ⌜ Kept self (now sources) (now names) (now pages) (now universes)
+            × (self .«page_count» < capacity) × (length (now name) ≤ most-name) × (length (now list) ≤ most-universes)
+            × (any (heads-of 0 cid) (headsOf self (now sources) (now names)) ≡ false) ⌝ }
+        ensures { λ r. let m = lent sources names pages universes in
+            ⌜ took m r (taken reading (announcement cid name page «last_page» list) (known self (m .entry))) ⌝ }
     {
         if page == 0 {
             if last_page == 0 {
@@ -266,8 +279,11 @@ impl Discovery {
         name: &[u8],
         list: &[u16],
     ) -> PageArrived
-        requires { ⌜ Kept self (now sources) (now names) (now pages) (now universes) × (self .«page_count» < capacity) × (length (now name) ≤ most-name) × (length (now list) ≤ most-universes) × (at ≡ prefix (λ row. not (owned 0 cid row)) (take (self .«source_count») (now sources))) × (at < self .«source_count») ⌝ }
-        ensures { λ r. ⌜ Took (now (universes .entry)) r (now (sources .exit)) (now (names .exit)) (now (pages .exit)) (now (universes .exit)) (taken reading (record { cid = cid; name = now (name .entry); page = page; last-page = «last_page»; universes = now (list .entry) }) (discoveredOf self (now (sources .entry)) (now (names .entry)) (now (pages .entry)) (now (universes .entry)))) ⌝ }
+        requires { ⌜ Kept self (now sources) (now names) (now pages) (now universes)
+            × (self .«page_count» < capacity) × (length (now name) ≤ most-name) × (length (now list) ≤ most-universes)
+            × (at ≡ prefix (λ row. not (owned 0 cid row)) (take (self .«source_count») (now sources))) × (at < self .«source_count») ⌝ }
+        ensures { λ r. let m = lent sources names pages universes in
+            ⌜ took m r (taken reading (announcement cid name page «last_page» list) (known self (m .entry))) ⌝ }
     {
         let row = sources[at];
         let first_last_page = row[3];
@@ -318,8 +334,10 @@ impl Discovery {
         name: &[u8],
         list: &[u16],
     ) -> PageArrived
-        requires { ⌜ Kept self (now sources) (now names) (now pages) (now universes) × (length (now name) ≤ most-name) × (length (now list) ≤ most-universes) ⌝ }
-        ensures { λ r. ⌜ Arrival self (now (sources .entry)) (now (names .entry)) (now (pages .entry)) (now (universes .entry)) reading (record { cid = cid; name = now (name .entry); page = page; last-page = «last_page»; universes = now (list .entry) }) r (now (sources .exit)) (now (names .exit)) (now (pages .exit)) (now (universes .exit)) ⌝ }
+        requires { ⌜ Kept self (now sources) (now names) (now pages) (now universes)
+            × (length (now name) ≤ most-name) × (length (now list) ≤ most-universes) ⌝ }
+        ensures { λ r. let m = lent sources names pages universes in
+            ⌜ arrival self m reading (announcement cid name page «last_page» list) r ⌝ }
     {
         let page_count = self.page_count;
         if PAGES <= page_count {
@@ -374,7 +392,8 @@ impl Discovery {
         list: &[u16],
     ) -> PageCalled
         requires { ⌜ Kept self (now sources) (now names) (now pages) (now universes) ⌝ }
-        ensures { λ r. ⌜ Called self (now (sources .entry)) (now (names .entry)) (now (pages .entry)) (now (universes .entry)) reading (record { cid = cid; name = now (name .entry); page = page; last-page = «last_page»; universes = now (list .entry) }) r (now (sources .exit)) (now (names .exit)) (now (pages .exit)) (now (universes .exit)) ⌝ }
+        ensures { λ r. let m = lent sources names pages universes in
+            ⌜ called self m reading (announcement cid name page «last_page» list) r ⌝ }
     {
         let length = name.len();
         if NAME < length {
@@ -437,7 +456,8 @@ impl Discovery {
         universe: u16,
     ) -> Discovery
         requires { ⌜ Kept self (now sources) (now names) (now pages) (now universes) ⌝ }
-        ensures { λ r. ⌜ Holds (now (universes .entry)) r (now (sources .entry)) (now (names .entry)) (now (pages .exit)) (now (universes .exit)) (ended cid universe (discoveredOf self (now (sources .entry)) (now (names .entry)) (now (pages .entry)) (now (universes .entry)))) ⌝ }
+        ensures { λ r. let m = lent sources names pages universes in
+            ⌜ holds m r (ended cid universe (known self (m .entry))) ⌝ }
     {
         let used = cut_pages(&mut *pages, &mut *universes, self.page_count, cid, universe);
         Discovery {
@@ -458,7 +478,8 @@ impl Discovery {
         reading: u64,
     ) -> Discovery
         requires { ⌜ Kept self (now sources) (now names) (now pages) (now universes) ⌝ }
-        ensures { λ r. ⌜ Holds (now (universes .entry)) r (now (sources .exit)) (now (names .exit)) (now (pages .exit)) (now (universes .exit)) (swept time reading (discoveredOf self (now (sources .entry)) (now (names .entry)) (now (pages .entry)) (now (universes .entry)))) ⌝ }
+        ensures { λ r. let m = lent sources names pages universes in
+            ⌜ holds m r (swept time reading (known self (m .entry))) ⌝ }
     {
         let mut d = self;
         let mut at = find_expired(&*sources, d.source_count, time, reading);
