@@ -115,7 +115,8 @@ fn nth_page(pages: &PageRows, count: usize, mark: u64, cid: Cid, k: usize) -> us
 // How many sources are partial.
 pub fn partial_count(discovery: Discovery, sources: &HeadRows) -> usize
     requires { ⌜ length (now sources) ≡ capacity ⌝ }
-    ensures { λ r. ⌜ ((names pages : List (List ℕ)) (universes : List ℕ) → r ≡ length (discoveredOf discovery (now (sources .entry)) names pages universes .partial)) ⌝ }
+    ensures { λ r. ⌜ ((names pages : List (List ℕ)) (universes : List ℕ) →
+        r ≡ length (discoveredOf discovery (now (sources .entry)) names pages universes .partial)) ⌝ }
 {
     let count = within(discovery.source_count);
     count_sources(sources, count, 0)
@@ -124,7 +125,8 @@ pub fn partial_count(discovery: Discovery, sources: &HeadRows) -> usize
 // How many sources are listed.
 pub fn listed_count(discovery: Discovery, sources: &HeadRows) -> usize
     requires { ⌜ length (now sources) ≡ capacity ⌝ }
-    ensures { λ r. ⌜ ((names pages : List (List ℕ)) (universes : List ℕ) → r ≡ length (discoveredOf discovery (now (sources .entry)) names pages universes .listed)) ⌝ }
+    ensures { λ r. ⌜ ((names pages : List (List ℕ)) (universes : List ℕ) →
+        r ≡ length (discoveredOf discovery (now (sources .entry)) names pages universes .listed)) ⌝ }
 {
     let count = within(discovery.source_count);
     count_sources(sources, count, 1)
@@ -133,7 +135,8 @@ pub fn listed_count(discovery: Discovery, sources: &HeadRows) -> usize
 // Which row holds the k-th partial source (mark 0) or the k-th listed one (mark 1), from 0; the count of sources if there are not so many.
 pub fn source_place(discovery: Discovery, sources: &HeadRows, mark: u64, k: usize) -> usize
     requires { ⌜ length (now sources) ≡ capacity ⌝ }
-    ensures { λ r. ⌜ ((names pages : List (List ℕ)) (universes : List ℕ) → SourceAt mark k r discovery (now (sources .entry)) names pages universes) ⌝ }
+    ensures { λ r. ⌜ ((names pages : List (List ℕ)) (universes : List ℕ) →
+        SourceAt mark k r discovery (now (sources .entry)) names pages universes) ⌝ }
 {
     let count = within(discovery.source_count);
     let place = nth_source(sources, count, mark, k);
@@ -200,7 +203,8 @@ pub fn page_universes<'a>(
     at: usize,
 ) -> &'a [u16]
     requires { ⌜ length (now pages) ≡ capacity ⌝ }
-    ensures held { λ r. ⌜ (at < discovery .«page_count» → now r ≡ page-of-row (now (pages .entry)) (now (universes .entry)) at .universes) ⌝ }
+    ensures held { λ r. ⌜ (at < discovery .«page_count» →
+        now r ≡ page-of-row (now (pages .entry)) (now (universes .entry)) at .universes) ⌝ }
     ensures past { λ r. ⌜ (discovery .«page_count» ≤ at → now r ≡ []) ⌝ }
 {
     let count = within(discovery.page_count);
