@@ -16,7 +16,7 @@ use Rattle.rules.specs.declared.Cid.{Cid}
 use Rattle.rules.specs.Cid.{same, same-path}
 use Rattle.rules.specs.Age.{aged}
 use Rattle.discovery_calls.specs.declared.Discovery.{Discovery}
-use Rattle.discovery.specs.Discovery.{Page, Source, drop-source, current, swept, ended, Once, nothing-known, page-count, capacity}
+use Rattle.discovery.specs.Discovery.{Page, Source, drop-source, current, swept, ended, Once, page-count, capacity}
 use Rattle.discovery.specs.Kept.{dropped-none}
 use Rattle.discovery_rows.specs.Store.{Head, heads-of, pages-at, sourceOf, sources-at, viewOf, Marked, owner-self, any-sources, prefix-none}
 use Rattle.discovery_rows.specs.Leaves.{cut-leaf}

@@ -1,5 +1,4 @@
-// Document 01, 'Discovery': sources that announce their universes in pages, partial and listed.
-
+// Document 01, 'Discovery': sources that announce their universes in pages, partial and listed. Their rows and the pool are lent.
 ghost use mathlib.Core.Path.{_≡_};
 ghost use mathlib.Core.Bool.{true, false, not};
 ghost use mathlib.Core.Option.{some};

@@ -1,4 +1,5 @@
 // Discovery's lent memory: rows of sources and pages, and a pool of the pages' universes.
+// discovery_calls calls pages, pool and rows, discovery_reads calls owners.
 pub mod owners;
 pub mod pages;
 pub mod pool;

@@ -59,7 +59,8 @@ pub fn cut_down(universes: &mut [u16], to: usize, from: usize, n: usize, univers
     requires { ⌜ (to ≤ from) × (from + n ≤ length (now universes)) ⌝ }
     ensures { λ r. ⌜ (length (now (universes .exit)) ≡ length (now (universes .entry)))
         × (r ≡ length (keep (λ v. not (eqb v universe)) (take n (drop from (now (universes .entry))))))
-        × (take (to + r) (now (universes .exit)) ≡ take to (now (universes .entry)) ++ keep (λ v. not (eqb v universe)) (take n (drop from (now (universes .entry)))))
+        × (take (to + r) (now (universes .exit))
+        ≡ take to (now (universes .entry)) ++ keep (λ v. not (eqb v universe)) (take n (drop from (now (universes .entry)))))
         × (drop (from + n) (now (universes .exit)) ≡ drop (from + n) (now (universes .entry))) ⌝ }
 {
     let mut kept = 0;
