@@ -135,14 +135,17 @@ most-universes = 512
 abbrev pub most-name : ℕ
 most-name = 63
 
--- "64 pages on arrival | 13"
 unfoldable pub taken : ℕ → Announcement → Discovered → Discovered × PageAnswer
 taken now a d =
     let n = noted now a (lookup (a .cid) (d .partial)) in
     (noting n d, told n)
 
+-- "64 pages on arrival | 13": whatever the page
+abbrev pub overfull : Announcement → Discovered → Bool
+overfull a d = leb capacity (pages-held d)
+
 unfoldable pub arrived : ℕ → Announcement → Discovered → Discovered × PageAnswer
-arrived now a d = cond (leb capacity (pages-held d)) (d, PagesFull) (taken now a d)
+arrived now a d = cond (overfull a d) (d, PagesFull) (taken now a d)
 
 -- ── the call, for every input: "name over 63, discovery list over 512 | 1 | length"; "name before list" ──
 abbrev pub longer : ℕ → List ℕ → Option ℕ

@@ -14,7 +14,7 @@ use Rattle.table.specs.Table.{keep, any, length-keep, keep-all}
 use Rattle.table.specs.Place.{prefix, insertAt}
 use Rattle.rules.specs.declared.Cid.{Cid}
 use Rattle.rules.specs.Cid.{same, same-refl, same-path}
-use Rattle.discovery.specs.Discovery.{Page, Source, Discovered, Announcement, lookup, drop-source, relisted, updated, in-place, sorted, complete, pageOf, extended, begun, Note, begin, extend, list, noted, noting, page-count, pages-held, capacity, most-universes, most-name, taken, arrived, cut-page, cut, ended, current, swept, Once, Rising, Proper-page, Proper-pages, Proper, All-proper, Ordered}
+use Rattle.discovery.specs.Discovery.{Page, Source, Discovered, Announcement, lookup, drop-source, relisted, updated, in-place, sorted, complete, pageOf, extended, begun, Note, begin, extend, list, noted, noting, page-count, pages-held, capacity, most-universes, most-name, taken, overfull, arrived, cut-page, cut, ended, current, swept, Once, Rising, Proper-page, Proper-pages, Proper, All-proper, Ordered}
 use Rattle.discovery.specs.Laws.{same-sym, lookup-cid, none-lookup, lookup-drop, any-keep}
 
 -- ── each CID once ──
@@ -427,7 +427,7 @@ module _ (now : ℕ) (a : Announcement) (d : Discovered) (o : Ordered d) where
   pub ordered-arrived : Fitting a → Ordered ((arrived now a d) .0)
   unfolding arrived
   ordered-arrived f =
-      split (leb capacity (pages-held d))
+      split (overfull a d)
       (λ h. rw h o)
       (λ h. rw h (ordered-taken f (leb-false capacity (pages-held d) h)))
 

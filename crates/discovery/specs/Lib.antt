@@ -1,15 +1,9 @@
+-- What discovery means.
+-- Discovery  the definitions, in document 01's order: sources and pages, a page's arrival, a universe's end, the sweep, what is kept in order
+-- Laws       each source by itself; calls about different sources in either order
+-- Kept       every call keeps the lists in their order and within their counts
+-- Trials     document 01's sentences and trial values by numbers
 pub mod Discovery
 pub mod Laws
 pub mod Kept
 pub mod Trials
-pub mod Store
-pub mod Leaves
-pub mod Moves
-pub mod Pool
-pub mod Lent
-pub mod Rows
-pub mod View
-pub mod Steps
-pub mod Calls
-pub mod Arrive
-pub mod Sweep

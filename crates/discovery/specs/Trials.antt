@@ -1,10 +1,13 @@
--- Document 01, 'Trial values': which pages list a source whose last page is 1.
+-- Document 01 by numbers: which pages list a source whose last page is 1; what of the first page is kept; the order of listing; the sweep; 13 and 1.
 -- Assumes nothing.
 use mathlib.Core.Path.{_≡_, refl}
+use mathlib.Core.Option.{none, some}
 use mathlib.Core.List.{List, [], _∷_, map}
 use Prim.Native.Nat.{ℕ}
+use lib.ListN.{length}
 use Rattle.table.specs.Table.{keep, any}
-use Rattle.discovery.specs.Discovery.{Discovered, nothing-known, lookup, drop-source, relisted, updated, in-place, sorted, numbered, complete, extended, begun, noted, noting, page-count, taken, arrived}
+use Rattle.discovery.specs.declared.PageAnswer.the-variants.{PagesFull}
+use Rattle.discovery.specs.Discovery.{Source, Discovered, Announcement, nothing-known, lookup, drop-source, relisted, updated, in-place, sorted, numbered, complete, extended, begun, noted, noting, page-count, pages-held, taken, arrived, too-long, swept}
 
 -- pages of one source, in the order of their arrival, at the reading 0
 unfoldable pub arrivals : ℕ → List ℕ → Discovered → Discovered
@@ -33,3 +36,63 @@ backwards-lists = (refl, refl)
 pub further-lists : (listed-pages (arrivals 1 (0 ∷ 5 ∷ 1 ∷ []) nothing-known) ≡ (0 ∷ 1 ∷ 5 ∷ []) ∷ []) × (partial-pages (arrivals 1 (0 ∷ 5 ∷ 1 ∷ []) nothing-known) ≡ [])
 unfolding arrivals arrived page-count taken noted begun extended complete numbered sorted in-place noting updated drop-source relisted lookup keep any
 further-lists = (refl, refl)
+
+-- ── "The first last-page value and first name are kept"; "the reading renewed" ──
+-- a page of one source
+abbrev pub page-of-one : ℕ → ℕ → List ℕ → Announcement
+page-of-one page last name = record { cid = record { hi = 0; lo = 1 }; name = name; page = page; last-page = last; universes = [] }
+
+-- page 1 of 1, named 65, at 1,000, then page 0, said to be of 7 and named 66, at 2,000
+abbrev pub renamed : Discovered
+renamed = (arrived 2000 (page-of-one 0 7 (66 ∷ [])) ((arrived 1000 (page-of-one 1 1 (65 ∷ [])) nothing-known) .0)) .0
+
+-- trap: "taking last page from the newest page"
+pub first-kept : (map (λ s. s .last-page) (renamed .listed) ≡ 1 ∷ []) × (map (λ s. s .name) (renamed .listed) ≡ (65 ∷ []) ∷ []) × (map (λ s. s .reading) (renamed .listed) ≡ 2000 ∷ [])
+unfolding arrived page-count taken noted begun extended complete numbered sorted in-place noting updated drop-source relisted lookup keep any
+first-kept = (refl, refl, refl)
+
+-- ── "Listing removes the old entry and appends." ──
+-- sources of one page, by their numbers, in the order of their arrival
+unfoldable pub listings : List ℕ → Discovered → Discovered
+listings [] d = d
+listings (c ∷ cs) d =
+    listings cs ((arrived 0 (record { cid = record { hi = 0; lo = c }; name = []; page = 0; last-page = 0; universes = [] }) d) .0)
+
+pub listed-again : map (λ s. s .cid .lo) (listings (1 ∷ 2 ∷ 1 ∷ []) nothing-known .listed) ≡ 2 ∷ 1 ∷ []
+unfolding listings arrived page-count taken noted begun noting drop-source relisted lookup keep any
+listed-again = refl
+
+-- ── "drops entries of age 2,500 or more" ──
+-- one source, partial and listed, of the reading 1,000
+abbrev pub of-1000 : Source
+of-1000 = record { cid = record { hi = 0; lo = 1 }; name = []; last-page = 0; reading = 1000; pages = [] }
+
+pub age-2500-dropped : swept 2500 3500 (record { partial = of-1000 ∷ []; listed = of-1000 ∷ [] }) ≡ nothing-known
+unfolding swept keep
+age-2500-dropped = refl
+
+pub age-2499-kept : swept 2500 3499 (record { partial = of-1000 ∷ []; listed = of-1000 ∷ [] }) ≡ record { partial = of-1000 ∷ []; listed = of-1000 ∷ [] }
+unfolding swept keep
+age-2499-kept = refl
+
+-- ── "64 pages on arrival | 13": "13 first", and all is left ──
+pub full-at-64 : (now : ℕ) (a : Announcement) (d : Discovered) → pages-held d ≡ 64 → arrived now a d ≡ (d, PagesFull)
+unfolding arrived
+full-at-64 now a d h = rw h
+
+pub taken-at-63 : (now : ℕ) (a : Announcement) (d : Discovered) → pages-held d ≡ 63 → arrived now a d ≡ taken now a d
+unfolding arrived
+taken-at-63 now a d h = rw h
+
+-- ── "name over 63, discovery list over 512 | 1 | length"; "name before list" ──
+pub name-told : (a : Announcement) → length (a .name) ≡ 64 → too-long a ≡ some 64
+unfolding too-long
+name-told a h = rw h
+
+pub list-told : (a : Announcement) → length (a .name) ≡ 63 → length (a .universes) ≡ 513 → too-long a ≡ some 513
+unfolding too-long
+list-told a h g = rw (h, g)
+
+pub neither-told : (a : Announcement) → length (a .name) ≡ 63 → length (a .universes) ≡ 512 → too-long a ≡ none
+unfolding too-long
+neither-told a h g = rw (h, g)
