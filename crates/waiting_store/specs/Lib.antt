@@ -1,0 +1,4 @@
+pub mod Entries
+pub mod Posts
+pub mod Passes
+pub mod Written
