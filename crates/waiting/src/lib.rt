@@ -1,4 +1,9 @@
 // Document 01, 'Waiting data' and 'Released bytes': what the calls over waiting data answer. What they mean stands in specs/.
+ghost use mathlib.Core.Path.{_≡_};
+ghost use Rattle.waiting.specs.Waiting.{capacity, store-length};
+ghost use Rattle.waiting.specs.Answers.{release-length};
+use merge::VALUES;
+
 // What storing answers.
 pub enum StoreAnswer {
     Stored,
@@ -23,5 +28,30 @@ pub enum ReleaseAnswer {
     OutputShort(usize),
 }
 
-// The output that a release needs: 64 records of 35 bytes and 513 values.
-pub const RELEASE_LENGTH: usize = 35072;
+// Universes that can wait.
+pub const WAITING: usize = 64;
+
+// The store that a caller lends: a block of bytes for the values of each.
+pub const STORE_LENGTH: usize = WAITING * VALUES;
+
+// The output that a release needs: for each a record of 35 bytes and its values.
+pub const RELEASE_LENGTH: usize = WAITING * (35 + VALUES);
+
+// The constants are the definitions' numbers.
+pub fn capacity() -> usize
+    ensures { λ r. ⌜ r ≡ capacity ⌝ }
+{
+    WAITING
+}
+
+pub fn store_length() -> usize
+    ensures { λ r. ⌜ r ≡ store-length ⌝ }
+{
+    STORE_LENGTH
+}
+
+pub fn release_length() -> usize
+    ensures { λ r. ⌜ r ≡ release-length ⌝ }
+{
+    RELEASE_LENGTH
+}

@@ -6,11 +6,13 @@ use mathlib.Core.Option.{Option, none, some}
 use mathlib.Core.List.{List, []}
 use Prim.Native.Nat.{ℕ, _+_, _-_, _*_, _≤_, _<_}
 use native.Mathlib.Omega.{arith}
-use lib.Dec.{ltb, leb}
+use lib.Dec.{ltb}
 use lib.ListN.{length, take, drop, getD, set, replicate, length-take, List·getD-eq-default}
 use lib.Seq.{getD-take}
 use borrow.Author.Tests.{le-leb, lt-leb, lt-ltb, le-ltb, ltb-true, ltb-false}
-use Rattle.table.specs.Cases.{split, clash, found}
+use denote.Ref as ref
+use Rattle.table.specs.Cases.{split, clash}
+use Rattle.table.specs.Lent.{Part}
 use Rattle.table.specs.Order.{ℕ-order}
 use Rattle.table.specs.Table.{keep, any, store as put, remove, Ascending, keep-all, remove-absent}
 use Rattle.table.specs.Place.{prefix, prefix-le, place, insertAt, removeAt, absent-end, absent, present, store-insert, store-replace, remove-place}
@@ -26,9 +28,9 @@ use Rattle.waiting.specs.declared.StoreCall.the-variants.{Taken, TooLong}
 use Rattle.waiting.specs.declared.ReleaseAnswer.{ReleaseAnswer}
 use Rattle.waiting.specs.declared.ReleaseAnswer.the-variants.{Released, OutputShort}
 use Rattle.waiting_store.specs.declared.Found.the-variants.{At, Before}
-use Rattle.waiting.specs.Waiting.{universeOf, waitingFor, capacity, merged, joining, stored, released, cleared, held, fresh, swept, left, of-address}
+use Rattle.waiting.specs.Waiting.{universeOf, waitingFor, capacity, merged, stored, released, cleared, held, fresh, swept, left, of-address}
 use Rattle.waiting.specs.Records.{records}
-use Rattle.waiting.specs.Answers.{store-call, storeNumberOf, storeValuesOf, store-told}
+use Rattle.waiting.specs.Answers.{store-call, storeNumberOf, storeValuesOf, store-told, release-length}
 use Rattle.waiting.specs.Answers.{release-length, release-call, release-output, releaseNumberOf, releaseValuesOf, release-told}
 use Rattle.waiting_store.specs.Written.{Writing}
 use Rattle.waiting.specs.Laws.{ordered-stored, ordered-cleared, ordered-swept, ordered-left, stored-merged, stored-refused, stored-full, stored-new, merged-universe, store-answer-told, release-answer-told}
@@ -43,6 +45,10 @@ pub record Yields (rows : List (List ℕ)) (store : List ℕ) (rows′ : List (L
   pub lent : Lent rows store rows′ store′
   pub view : waitingOf n rows′ store′ ≡ ds
 
+-- of lent rows and a lent store
+abbrev pub YieldsIn : Part (List (List ℕ)) → Part (List ℕ) → ℕ → List Dmx → Type 0
+YieldsIn rows store n ds = Yields (ref.now (rows .entry)) (ref.now (store .entry)) (ref.now (rows .exit)) (ref.now (store .exit)) n ds
+
 -- storing values within 513, with the answer
 pub record StoredCall (n : ℕ) (rows : List (List ℕ)) (store : List ℕ) (choice : MergeChoice) (p : Dmx) (rows′ : List (List ℕ)) (store′ : List ℕ) (m : ℕ) (a : StoreAnswer) : Type 0 where
   pub yields : Yields rows store rows′ store′ m (stored choice p (waitingOf n rows store) .0)
@@ -55,7 +61,7 @@ pub record StoreCalled (n : ℕ) (rows : List (List ℕ)) (store : List ℕ) (ch
   pub answers : c ≡ store-call choice p (waitingOf n rows store) .1
   pub told : (storeNumberOf c, storeValuesOf c) ≡ store-told choice p (waitingOf n rows store)
   pub full-unchanged : c ≡ Taken WaitingFull → (rows′ ≡ rows) × (store′ ≡ store)
-  pub long-unchanged : 513 < length (p .values) → (m ≡ n) × (rows′ ≡ rows) × (store′ ≡ store)
+  pub long-unchanged : most-values < length (p .values) → (m ≡ n) × (rows′ ≡ rows) × (store′ ≡ store)
 
 -- `rtrv_waiting_data`; an output that is too short leaves all
 pub record ReleaseCalled (n : ℕ) (rows : List (List ℕ)) (store : List ℕ) (now a : ℕ) (out : List ℕ) (rows′ : List (List ℕ)) (store′ out′ : List ℕ) (m : ℕ) (r : ReleaseAnswer) : Type 0 where
@@ -63,7 +69,7 @@ pub record ReleaseCalled (n : ℕ) (rows : List (List ℕ)) (store : List ℕ) (
   pub answers : r ≡ release-call (length out) now a (waitingOf n rows store) .1
   pub told : (releaseNumberOf r, releaseValuesOf r) ≡ release-told (length out) now a (waitingOf n rows store)
   pub written : out′ ≡ release-output now a (waitingOf n rows store) out
-  pub short-unchanged : length out < 35072 → (m ≡ n) × (rows′ ≡ rows) × (store′ ≡ store) × (out′ ≡ out)
+  pub short-unchanged : length out < release-length → (m ≡ n) × (rows′ ≡ rows) × (store′ ≡ store) × (out′ ≡ out)
 
 -- `check_waiting_data_timeouts`; where nothing is expired, nothing is written
 pub record SweptCall (n : ℕ) (rows : List (List ℕ)) (store : List ℕ) (now : ℕ) (rows′ : List (List ℕ)) (store′ : List ℕ) (m : ℕ) : Type 0 where
@@ -78,7 +84,7 @@ pub record Empty (n : ℕ) : Type 0 where
 pub empty-zero : Empty 0
 empty-zero = record { none-waits = λ rows store. refl; kept = λ rows store r. record { room = r; count-fits = omega arith; ascends = tt } }
 
-yield : (n m : ℕ) (rows rows′ : List (List ℕ)) (store store′ : List ℕ) (ds : List Dmx) → Kept n rows store → Lent rows store rows′ store′ → m ≤ 64
+yield : (n m : ℕ) (rows rows′ : List (List ℕ)) (store store′ : List ℕ) (ds : List Dmx) → Kept n rows store → Lent rows store rows′ store′ → m ≤ capacity
     → waitingOf m rows′ store′ ≡ ds → Ascending ltb universeOf ds → Yields rows store rows′ store′ m ds
 yield n m rows rows′ store store′ ds k l f v a = record {
   kept = record { room = lent-room (k .room) l; count-fits = f; ascends = rw v a };
@@ -147,9 +153,9 @@ module _ (n : ℕ) (rows : List (List ℕ)) (store : List ℕ) (k : Kept n rows 
         (unchanged n rows store (remove ltb universeOf u ds) k (sym (remove-absent ltb universeOf ℕ-order u ds (found-none s))), ap held (sym (found-none s)))
 
   -- ── `store_waiting_data` ──
-  module _ (choice : MergeChoice) (p : Dmx) (i : ℕ) (f : length (p .values) ≤ 513) where
+  module _ (choice : MergeChoice) (p : Dmx) (i : ℕ) (f : length (p .values) ≤ most-values) where
     making : (rows′ : List (List ℕ)) (store′ : List ℕ) (m : ℕ) (a : StoreAnswer) (es : List Dmx) → stored choice p ds ≡ (es, a) → (a ≡ WaitingFull → (rows′ ≡ rows) × (store′ ≡ store))
-        → Lent rows store rows′ store′ → m ≤ 64 → waitingOf m rows′ store′ ≡ es → StoredCall n rows store choice p rows′ store′ m a
+        → Lent rows store rows′ store′ → m ≤ capacity → waitingOf m rows′ store′ ≡ es → StoredCall n rows store choice p rows′ store′ m a
     making rows′ store′ m a es e z l h v =
         let o = ordered-stored choice p ds (kept-ordered k) f in
         let q : stored choice p ds .0 ≡ es = ap (λ (x : List Dmx × StoreAnswer). x .0) e in
@@ -159,12 +165,12 @@ module _ (n : ℕ) (rows : List (List ℕ)) (store : List ℕ) (k : Kept n rows 
           full-unchanged = z;
         }
 
-    pub stores-full : Sought (universeOf p) n rows (Before i) → 64 ≤ n → StoredCall n rows store choice p rows store n WaitingFull
+    pub stores-full : Sought (universeOf p) n rows (Before i) → capacity ≤ n → StoredCall n rows store choice p rows store n WaitingFull
     stores-full s h =
         let l = length-waiting k in
         making rows store n WaitingFull ds (stored-full choice p ds (found-none (universeOf p) i s) (le-leb capacity (length ds) (omega arith))) (λ e. (refl, refl)) (lent-none rows store) (k .count-fits) refl
 
-    pub stores-new : (rows′ : List (List ℕ)) (store′ : List ℕ) → Sought (universeOf p) n rows (Before i) → n < 64
+    pub stores-new : (rows′ : List (List ℕ)) (store′ : List ℕ) → Sought (universeOf p) n rows (Before i) → n < capacity
         → Held rows store rows′ store′ (n + 1) (insertAt i p (take n (entries rows store))) → StoredCall n rows store choice p rows′ store′ (n + 1) Stored
     stores-new rows′ store′ s h c =
         let l = length-waiting k in
@@ -333,7 +339,7 @@ pub before-within : (u n i : ℕ) (rows : List (List ℕ)) → Sought u n rows (
 before-within u n i rows s = omega (arith, s .0, prefix-le (λ row. below u (headOf row)) (take n rows), length-take n rows)
 
 -- ── the read-outs ──
-pub data-at : (n i : ℕ) (rows : List (List ℕ)) (store : List ℕ) (d : DmxData) → i < n → n ≤ 64 → length rows ≡ 64 → d ≡ headOf (getD rows i [])
+pub data-at : (n i : ℕ) (rows : List (List ℕ)) (store : List ℕ) (d : DmxData) → i < n → n ≤ capacity → length rows ≡ capacity → d ≡ headOf (getD rows i [])
     → d ≡ getD (waitingOf n rows store) i nothing .head
 data-at n i rows store d h b l e =
     e ∙ sym (ap (λ (x : Dmx). x .head) (getD-take n (entries rows store) i nothing h) ∙ head-at rows store i (omega arith))
@@ -350,7 +356,7 @@ pub values-past : (n i : ℕ) (rows : List (List ℕ)) (store : List ℕ) → n 
 values-past n i rows store h = sym (ap (λ (x : Dmx). x .values) (past n i rows store h))
 
 pub values-at : (n i m : ℕ) (rows : List (List ℕ)) (store : List ℕ) → Kept n rows store → i < n → m ≡ countOf (getD rows i [])
-    → take (i * 513 + m - i * 513) (drop (i * 513) store) ≡ getD (waitingOf n rows store) i nothing .values
+    → take (i * most-values + m - i * most-values) (drop (i * most-values) store) ≡ getD (waitingOf n rows store) i nothing .values
 values-at n i m rows store k h e =
     let b = k .count-fits in
     ap (λ (x : Dmx). x .values) (read-entry rows store i (k .room) (omega arith) (headOf (getD rows i [])) m refl e ∙ sym (getD-take n (entries rows store) i nothing h))

@@ -8,6 +8,8 @@ use Prim.Native.Nat.{ℕ, _*_, _≤_, _<_}
 use native.Mathlib.Omega.{arith}
 use lib.ListN.{length, take, drop, getD, set, length-take}
 use lib.Seq.{set-getD}
+use denote.Ref.{now}
+use Rattle.table.specs.Lent.{Part}
 use Rattle.settings.specs.declared.MergeChoice.the-variants.{DiscardLowestPriorityThenPrevious, HtpDmxMerge}
 use Rattle.merge.specs.declared.DmxData.{DmxData}
 use Rattle.merge.specs.declared.HtpAnswer.{HtpAnswer}
@@ -17,7 +19,7 @@ use Rattle.merge.specs.Merge.{Dmx, most-values, joined, htp-merge, preferred, h
 use Rattle.merge.specs.Laws.{joined-fits}
 use Rattle.merge.specs.Views.{dmx}
 use Rattle.merge.specs.Answers.{older-preferred, newer-preferred, choice-fits, htp-fits, htp-roomy, htp-refuses, htp-merges, htp-values}
-use Rattle.waiting.specs.Waiting.{merged, held}
+use Rattle.waiting.specs.Waiting.{merged, held, capacity}
 use Rattle.waiting_store.specs.Entries.{countOf, entries, nothing, Room, lent-none, entry-at}
 use Rattle.waiting_store.specs.Posts.{Changed}
 
@@ -30,7 +32,11 @@ pub record Joined (rows : List (List ℕ)) (store : List ℕ) (rows′ : List (L
   pub joins : r ≡ held o
   pub changed : Changed rows store rows′ store′ (joinedAt i (entries rows store) o)
 
-module _ (rows : List (List ℕ)) (store : List ℕ) (i : ℕ) (r : Room rows store) (h : i < 64) where
+-- of lent rows and a lent store
+abbrev pub JoinedIn : Part (List (List ℕ)) → Part (List ℕ) → ℕ → Option Dmx → Bool → Type 0
+JoinedIn rows store i o r = Joined (now (rows .entry)) (now (store .entry)) (now (rows .exit)) (now (store .exit)) i o r
+
+module _ (rows : List (List ℕ)) (store : List ℕ) (i : ℕ) (r : Room rows store) (h : i < capacity) where
   -- the entry at place i
   abbrev pub entry : Dmx
   entry = getD (entries rows store) i nothing
@@ -38,13 +44,13 @@ module _ (rows : List (List ℕ)) (store : List ℕ) (i : ℕ) (r : Room rows st
   pub entry-fits : length (entry .values) ≤ most-values
   entry-fits =
       let a = r .rows-length in
-      rw (entry-at rows store i nothing (omega arith)) (omega (arith, length-take (countOf (getD rows i [])) (drop (i * 513) store)))
+      rw (entry-at rows store i nothing (omega arith)) (omega (arith, length-take (countOf (getD rows i [])) (drop (i * most-values) store)))
 
   -- nothing changes
   same : Changed rows store rows store (entries rows store)
   same = record { lent = lent-none rows store; becomes = refl }
 
-  module _ (p : Dmx) (f : length (p .values) ≤ 513) where
+  module _ (p : Dmx) (f : length (p .values) ≤ most-values) where
     -- ── by priority ──
     pub chose-older : choice entry p ≡ Older → Changed rows store rows store (set (entries rows store) i (preferred entry p))
     chose-older e = rw (older-preferred entry p entry-fits f e, set-getD (entries rows store) i nothing) same
@@ -64,10 +70,10 @@ module _ (rows : List (List ℕ)) (store : List ℕ) (i : ℕ) (r : Room rows st
       pub blend-long : {n : ℕ} → htp-answer room entry p ≡ htp.TooLong n → Joined rows store rows store i (htp-merge entry p) false
       blend-long e = htp-fits entry p entry-fits f room e
 
-      pub blend-short : {n : ℕ} → 513 ≤ room → htp-answer room entry p ≡ htp.OutputShort n → Joined rows store rows store i (htp-merge entry p) false
+      pub blend-short : {n : ℕ} → most-values ≤ room → htp-answer room entry p ≡ htp.OutputShort n → Joined rows store rows store i (htp-merge entry p) false
       blend-short k e = htp-roomy entry p entry-fits f room k e
 
-      pub blend-count : (d : DmxData) (n : ℕ) → htp-answer room entry p ≡ htp.Merged d n → n ≤ 513
+      pub blend-count : (d : DmxData) (n : ℕ) → htp-answer room entry p ≡ htp.Merged d n → n ≤ most-values
       blend-count d n e =
           let m = htp-merges entry p entry-fits f room e in
           let c = m .count-is in

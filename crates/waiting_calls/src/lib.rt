@@ -3,22 +3,24 @@ ghost use mathlib.Core.Path.{_≡_};
 ghost use mathlib.Core.List.{List};
 ghost use Prim.Native.Nat.{ℕ, _≤_, _<_};
 ghost use lib.ListN.{length, getD, set};
-ghost use Rattle.merge.specs.Merge.{htp-merge, preferred};
+ghost use Rattle.merge.specs.Merge.{htp-merge, preferred, most-values};
 ghost use Rattle.merge.specs.Views.{dmx};
-ghost use Rattle.waiting.specs.Waiting.{merged, cleared};
-ghost use Rattle.waiting_store.specs.Entries.{entries, nothing, waitingOf, Room, Kept};
-ghost use Rattle.waiting_store.specs.Posts.{Changed};
-ghost use Rattle.waiting_calls.specs.Joins.{Joined};
-ghost use Rattle.waiting_calls.specs.Calls.{Empty, Yields, StoreCalled, ReleaseCalled, SweptCall};
+ghost use Rattle.waiting.specs.Waiting.{capacity, merged, cleared};
+ghost use Rattle.waiting_store.specs.Entries.{nothing, waitingOf, Room, Kept};
+ghost use Rattle.waiting_store.specs.Lent.{entriesIn, waitingIn, Become};
+ghost use Rattle.waiting_calls.specs.Joins.{JoinedIn};
+ghost use Rattle.waiting_calls.specs.Calls.{Empty, YieldsIn, StoreCalled, ReleaseCalled, SweptCall};
 use merge::Choice;
 use merge::DmxData;
 use merge::HtpAnswer;
-use merge::MOST_VALUES;
+use merge::VALUES;
 use settings::MergeChoice;
 use waiting::RELEASE_LENGTH;
 use waiting::ReleaseAnswer;
 use waiting::StoreAnswer;
 use waiting::StoreCall;
+use waiting::WAITING;
+use waiting_store::EntryRows;
 use waiting_store::Found;
 use waiting_store::Retain;
 use waiting_store::any_dropped;
@@ -32,19 +34,14 @@ use waiting_store::write_entry;
 use waiting_store::write_release;
 
 // The packet joins the entry at place i by priority: that entry stays, or the packet takes its place.
-fn choose_entry(
-    rows: &mut [[u64; 9]; 64],
-    store: &mut [u8],
-    i: usize,
-    packet: DmxData,
-    values: &[u8],
-)
-    requires { ⌜ Room (now rows) (now store) × (i < 64) × (length (now values) ≤ 513) ⌝ }
-    ensures { λ r. ⌜ Changed (now (rows .entry)) (now (store .entry)) (now (rows .exit)) (now (store .exit)) (set (entries (now (rows .entry)) (now (store .entry))) i (preferred (getD (entries (now (rows .entry)) (now (store .entry))) i nothing) (dmx packet (now (values .entry))))) ⌝ }
+fn choose_entry(rows: &mut EntryRows, store: &mut [u8], i: usize, packet: DmxData, values: &[u8])
+    requires { ⌜ Room (now rows) (now store) × (i < capacity) × (length (now values) ≤ most-values) ⌝ }
+    ensures { λ r. let es = entriesIn rows store in
+        ⌜ Become rows store (set (es .entry) i (preferred (getD (es .entry) i nothing) (dmx packet (now (values .entry))))) ⌝ }
 {
     let row = rows[i];
     let e = head_of(row);
-    let a = i * 513;
+    let a = i * VALUES;
     let b = a + count_of(row);
     let c = merge::discard_lowest_priority_then_previous(e, &store[a..b], packet, values);
     // The winner's values, where they lie: the older's stay there, and only the newer's are written to the store.
@@ -58,20 +55,21 @@ fn choose_entry(
 
 // The packet joins the entry at place i by highest value; a refused merge changes nothing and answers false.
 fn blend_entry(
-    rows: &mut [[u64; 9]; 64],
+    rows: &mut EntryRows,
     store: &mut [u8],
     i: usize,
     packet: DmxData,
     values: &[u8],
 ) -> bool
-    requires { ⌜ Room (now rows) (now store) × (i < 64) × (length (now values) ≤ 513) ⌝ }
-    ensures { λ r. ⌜ Joined (now (rows .entry)) (now (store .entry)) (now (rows .exit)) (now (store .exit)) i (htp-merge (getD (entries (now (rows .entry)) (now (store .entry))) i nothing) (dmx packet (now (values .entry)))) r ⌝ }
+    requires { ⌜ Room (now rows) (now store) × (i < capacity) × (length (now values) ≤ most-values) ⌝ }
+    ensures { λ r. let es = entriesIn rows store in
+        ⌜ JoinedIn rows store i (htp-merge (getD (es .entry) i nothing) (dmx packet (now (values .entry)))) r ⌝ }
 {
     let row = rows[i];
     let e = head_of(row);
-    let a = i * 513;
+    let a = i * VALUES;
     let b = a + count_of(row);
-    let mut block = [0u8; 513];
+    let mut block = [0u8; VALUES];
     match merge::htp_dmx_merge(e, &store[a..b], packet, values, &mut block) {
         HtpAnswer::Merged(d, m) => {
             write_entry(rows, store, i, d, &block[..m]);
@@ -85,15 +83,16 @@ fn blend_entry(
 
 // The packet joins the entry at place i by the merge choice.
 fn join_entry(
-    rows: &mut [[u64; 9]; 64],
+    rows: &mut EntryRows,
     store: &mut [u8],
     i: usize,
     choice: MergeChoice,
     packet: DmxData,
     values: &[u8],
 ) -> bool
-    requires { ⌜ Room (now rows) (now store) × (i < 64) × (length (now values) ≤ 513) ⌝ }
-    ensures { λ r. ⌜ Joined (now (rows .entry)) (now (store .entry)) (now (rows .exit)) (now (store .exit)) i (merged choice (getD (entries (now (rows .entry)) (now (store .entry))) i nothing) (dmx packet (now (values .entry)))) r ⌝ }
+    requires { ⌜ Room (now rows) (now store) × (i < capacity) × (length (now values) ≤ most-values) ⌝ }
+    ensures { λ r. let es = entriesIn rows store in
+        ⌜ JoinedIn rows store i (merged choice (getD (es .entry) i nothing) (dmx packet (now (values .entry)))) r ⌝ }
 {
     match choice {
         MergeChoice::DiscardLowestPriorityThenPrevious => {
@@ -142,7 +141,7 @@ impl Waiting {
     // Stored alone, or merged with what waits for its universe; a refused merge loses both. Values over 513 leave all.
     pub fn store_waiting_data(
         self,
-        rows: &mut [[u64; 9]; 64],
+        rows: &mut EntryRows,
         store: &mut [u8],
         choice: MergeChoice,
         packet: DmxData,
@@ -153,7 +152,7 @@ impl Waiting {
             (now (rows .exit)) (now (store .exit)) (r .waiting .count) (r .answer) ⌝ }
     {
         let n = self.count;
-        if MOST_VALUES < values.len() {
+        if VALUES < values.len() {
             return Stored {
                 waiting: Waiting { count: n },
                 answer: StoreCall::TooLong(values.len()),
@@ -175,7 +174,7 @@ impl Waiting {
                 }
             }
             Found::Before(i) => {
-                if 64 <= n {
+                if WAITING <= n {
                     return Stored {
                         waiting: Waiting { count: n },
                         answer: StoreCall::Taken(StoreAnswer::WaitingFull),
@@ -194,13 +193,15 @@ impl Waiting {
     // What waits for this universe goes; answers whether there was any.
     pub fn clear_waiting_data(
         self,
-        rows: &mut [[u64; 9]; 64],
+        rows: &mut EntryRows,
         store: &mut [u8],
         universe: u16,
     ) -> Cleared
         requires { ⌜ Kept (self .count) (now rows) (now store) ⌝ }
-        ensures view { λ r. ⌜ Yields (now (rows .entry)) (now (store .entry)) (now (rows .exit)) (now (store .exit)) (r .waiting .count) (cleared universe (waitingOf (self .count) (now (rows .entry)) (now (store .entry))) .0) ⌝ }
-        ensures answer { λ r. ⌜ r .held ≡ cleared universe (waitingOf (self .count) (now (rows .entry)) (now (store .entry))) .1 ⌝ }
+        ensures view { λ r. let ds = waitingIn (self .count) (r .waiting .count) rows store in
+            ⌜ YieldsIn rows store (r .waiting .count) (cleared universe (ds .entry) .0) ⌝ }
+        ensures answer { λ r. let ds = waitingIn (self .count) (r .waiting .count) rows store in
+            ⌜ r .held ≡ cleared universe (ds .entry) .1 ⌝ }
     {
         let n = self.count;
         match find_universe(&*rows, n, universe) {
@@ -221,12 +222,13 @@ impl Waiting {
     // The sweep by age. It looks first: where nothing is expired, nothing is written.
     pub fn check_waiting_data_timeouts(
         self,
-        rows: &mut [[u64; 9]; 64],
+        rows: &mut EntryRows,
         store: &mut [u8],
         reading: u64,
     ) -> Waiting
         requires { ⌜ Kept (self .count) (now rows) (now store) ⌝ }
-        ensures { λ r. ⌜ SweptCall (self .count) (now (rows .entry)) (now (store .entry)) reading (now (rows .exit)) (now (store .exit)) (r .count) ⌝ }
+        ensures { λ r. ⌜ SweptCall (self .count) (now (rows .entry)) (now (store .entry)) reading
+            (now (rows .exit)) (now (store .exit)) (r .count) ⌝ }
     {
         let n = self.count;
         let test = Retain::Fresh(reading);
@@ -241,7 +243,7 @@ impl Waiting {
     // that is too short leaves all.
     pub fn rtrv_waiting_data(
         self,
-        rows: &mut [[u64; 9]; 64],
+        rows: &mut EntryRows,
         store: &mut [u8],
         address: u16,
         reading: u64,
@@ -267,8 +269,8 @@ impl Waiting {
     }
 
     // For a dump: the header of the i-th universe that waits; past the last, a header of zeros.
-    pub fn waiting_data(self, rows: &[[u64; 9]; 64], i: usize) -> DmxData
-        requires { ⌜ (self .count ≤ 64) × (length (now rows) ≡ 64) ⌝ }
+    pub fn waiting_data(self, rows: &EntryRows, i: usize) -> DmxData
+        requires { ⌜ (self .count ≤ capacity) × (length (now rows) ≡ capacity) ⌝ }
         ensures { λ r. ⌜ ((store : List ℕ) → r ≡ getD (waitingOf (self .count) (now (rows .entry)) store) i nothing .head) ⌝ }
     {
         if i < self.count {
@@ -279,13 +281,13 @@ impl Waiting {
     }
 
     // And its values, where they lie; past the last, none.
-    pub fn waiting_values<'a>(self, rows: &[[u64; 9]; 64], store: &'a [u8], i: usize) -> &'a [u8]
+    pub fn waiting_values<'a>(self, rows: &EntryRows, store: &'a [u8], i: usize) -> &'a [u8]
         requires { ⌜ Kept (self .count) (now rows) (now store) ⌝ }
         ensures { λ r. ⌜ now r ≡ getD (waitingOf (self .count) (now (rows .entry)) (now (store .entry))) i nothing .values ⌝ }
     {
         if i < self.count {
             let row = rows[i];
-            let a = i * 513;
+            let a = i * VALUES;
             let b = a + count_of(row);
             return &store[a..b];
         }

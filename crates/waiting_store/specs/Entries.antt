@@ -17,10 +17,10 @@ use Rattle.rules.specs.declared.Cid.{Cid}
 use Rattle.merge.specs.declared.DmxData.{DmxData}
 use Rattle.merge.specs.declared.SourceCid.{SourceCid}
 use Rattle.merge.specs.declared.SourceCid.the-variants.{Merged, Of}
-use Rattle.merge.specs.Merge.{Dmx}
+use Rattle.merge.specs.Merge.{Dmx, most-values}
 use Rattle.merge.specs.Views.{dmx}
 use Rattle.waiting.specs.Records.{bit}
-use Rattle.waiting.specs.Waiting.{universeOf, Within, Ordered}
+use Rattle.waiting.specs.Waiting.{universeOf, Within, Ordered, capacity, store-length}
 
 -- ── the view ──
 abbrev pub ownerOf : Bool → Cid → SourceCid
@@ -44,7 +44,7 @@ rowOf d present hi lo n =
     d .universe ∷ d .«sync_uni» ∷ d .priority ∷ bit (d .preview) ∷ present ∷ hi ∷ lo ∷ d .«recv_timestamp» ∷ n ∷ []
 
 abbrev pub countOf : List ℕ → ℕ
-countOf row = min (getD row 8 0) 513
+countOf row = min (getD row 8 0) most-values
 
 abbrev pub entryOf : List ℕ → List ℕ → Dmx
 entryOf row block = dmx (headOf row) (take (countOf row) block)
@@ -56,25 +56,21 @@ nothing = entryOf [] []
 -- every row with its block
 unfoldable pub entries : List (List ℕ) → List ℕ → List Dmx
 entries [] store = []
-entries (row ∷ rows) store = entryOf row store ∷ entries rows (drop 513 store)
+entries (row ∷ rows) store = entryOf row store ∷ entries rows (drop most-values store)
 
 -- what waits: the first n of them
 abbrev pub waitingOf : ℕ → List (List ℕ) → List ℕ → List Dmx
 waitingOf n rows store = take n (entries rows store)
 
--- 64 blocks of 513 bytes
-abbrev pub store-length : ℕ
-store-length = 32832
-
 -- the lengths that the types say, and a store that the step has tested
 pub record Room (rows : List (List ℕ)) (store : List ℕ) : Type 0 where
-  pub rows-length : length rows ≡ 64
+  pub rows-length : length rows ≡ capacity
   pub store-room : store-length ≤ length store
 
 -- what every call presupposes and yields: the table in its order and within its count
 pub record Kept (n : ℕ) (rows : List (List ℕ)) (store : List ℕ) : Type 0 where
   pub room : Room rows store
-  pub count-fits : n ≤ 64
+  pub count-fits : n ≤ capacity
   pub ascends : Ascending ltb universeOf (waitingOf n rows store)
 
 -- a call keeps the lengths, and the store past the blocks
@@ -96,39 +92,39 @@ lent-room r l = record { rows-length = l .rows-same ∙ r .rows-length; store-ro
 pub length-entries : (rows : List (List ℕ)) (store : List ℕ) → length (entries rows store) ≡ length rows
 unfolding entries
 length-entries [] store = refl
-length-entries (row ∷ rows) store = ap suc (length-entries rows (drop 513 store))
+length-entries (row ∷ rows) store = ap suc (length-entries rows (drop most-values store))
 
 -- a row and its block, read
 pub entry-at : (rows : List (List ℕ)) (store : List ℕ) (i : ℕ) (d : Dmx) → i < length rows
-    → getD (entries rows store) i d ≡ entryOf (getD rows i []) (drop (i * 513) store)
+    → getD (entries rows store) i d ≡ entryOf (getD rows i []) (drop (i * most-values) store)
 unfolding entries
 entry-at [] store i d h = absurd (omega arith)
 entry-at (row ∷ rows) store zero d h = refl
 entry-at (row ∷ rows) store (suc i) d h =
-    let e : 513 + i * 513 ≡ suc i * 513 = omega arith in
-    entry-at rows (drop 513 store) i d (omega arith) ∙ ap (entryOf (getD rows i [])) (drop-drop (i * 513) 513 store ∙ ap (λ (k : ℕ). drop k store) e)
+    let e : most-values + i * most-values ≡ suc i * most-values = omega arith in
+    entry-at rows (drop most-values store) i d (omega arith) ∙ ap (entryOf (getD rows i [])) (drop-drop (i * most-values) most-values store ∙ ap (λ (k : ℕ). drop k store) e)
 
 -- and written
-pub entry-set : (rows : List (List ℕ)) (store : List ℕ) (i : ℕ) (row vs : List ℕ) → i < length rows → length rows * 513 ≤ length store → length vs ≤ 513
-    → countOf row ≡ length vs → entries (set rows i row) (pasted store (i * 513) vs) ≡ set (entries rows store) i (dmx (headOf row) vs)
+pub entry-set : (rows : List (List ℕ)) (store : List ℕ) (i : ℕ) (row vs : List ℕ) → i < length rows → length rows * most-values ≤ length store → length vs ≤ most-values
+    → countOf row ≡ length vs → entries (set rows i row) (pasted store (i * most-values) vs) ≡ set (entries rows store) i (dmx (headOf row) vs)
 unfolding entries
 entry-set [] store i row vs h l f e = absurd (omega arith)
 entry-set (r ∷ rows) store zero row vs h l f e =
     let a : take (countOf row) (pasted store 0 vs) ≡ vs = rw (e, pasted-front store vs) (take-append-seam vs (drop (length vs) store)) in
-    let b : drop 513 (pasted store 0 vs) ≡ drop 513 store = drop-pasted store 0 vs (omega arith) 513 (omega arith) in
-    ap (λ (v : List ℕ). dmx (headOf row) v ∷ entries rows (drop 513 (pasted store 0 vs))) a ∙ ap (λ (s : List ℕ). dmx (headOf row) vs ∷ entries rows s) b
+    let b : drop most-values (pasted store 0 vs) ≡ drop most-values store = drop-pasted store 0 vs (omega arith) most-values (omega arith) in
+    ap (λ (v : List ℕ). dmx (headOf row) v ∷ entries rows (drop most-values (pasted store 0 vs))) a ∙ ap (λ (s : List ℕ). dmx (headOf row) vs ∷ entries rows s) b
 entry-set (r ∷ rows) store (suc i) row vs h l f e =
-    let k : suc i * 513 ≡ 513 + i * 513 = omega arith in
-    let m : 513 ≤ length store = omega arith in
-    let x = pasted (drop 513 store) (i * 513) vs in
-    let p : pasted store (suc i * 513) vs ≡ take 513 store ++ x = rw k (pasted-shift store 513 (i * 513) vs) in
-    let t : length (take 513 store) ≡ 513 = length-take-le 513 store m in
-    let c : countOf r ≤ 513 = omega arith in
-    let a : take (countOf r) (take 513 store ++ x) ≡ take (countOf r) store = take-append-le (countOf r) (take 513 store) x (omega arith) ∙ take-take (countOf r) 513 store c in
-    let b : drop 513 (take 513 store ++ x) ≡ x = drop-at (take 513 store) x 513 t in
-    let q = entry-set rows (drop 513 store) i row vs (omega arith) (omega (arith, length-drop 513 store)) f e in
-    ap (λ (s : List ℕ). dmx (headOf r) (take (countOf r) s) ∷ entries (set rows i row) (drop 513 s)) p
-    ∙ ap (λ (v : List ℕ). dmx (headOf r) v ∷ entries (set rows i row) (drop 513 (take 513 store ++ x))) a
+    let k : suc i * most-values ≡ most-values + i * most-values = omega arith in
+    let m : most-values ≤ length store = omega arith in
+    let x = pasted (drop most-values store) (i * most-values) vs in
+    let p : pasted store (suc i * most-values) vs ≡ take most-values store ++ x = rw k (pasted-shift store most-values (i * most-values) vs) in
+    let t : length (take most-values store) ≡ most-values = length-take-le most-values store m in
+    let c : countOf r ≤ most-values = omega arith in
+    let a : take (countOf r) (take most-values store ++ x) ≡ take (countOf r) store = take-append-le (countOf r) (take most-values store) x (omega arith) ∙ take-take (countOf r) most-values store c in
+    let b : drop most-values (take most-values store ++ x) ≡ x = drop-at (take most-values store) x most-values t in
+    let q = entry-set rows (drop most-values store) i row vs (omega arith) (omega (arith, length-drop most-values store)) f e in
+    ap (λ (s : List ℕ). dmx (headOf r) (take (countOf r) s) ∷ entries (set rows i row) (drop most-values s)) p
+    ∙ ap (λ (v : List ℕ). dmx (headOf r) v ∷ entries (set rows i row) (drop most-values (take most-values store ++ x))) a
     ∙ ap (λ (s : List ℕ). dmx (headOf r) (take (countOf r) store) ∷ entries (set rows i row) s) b
     ∙ ap (λ (ds : List Dmx). dmx (headOf r) (take (countOf r) store) ∷ ds) q
 
@@ -137,7 +133,7 @@ unfolding entries
 within-entries zero rows store = tt
 within-entries (suc n) [] store = tt
 within-entries (suc n) (row ∷ rows) store =
-    (omega (arith, length-take (countOf row) store), within-entries n rows (drop 513 store))
+    (omega (arith, length-take (countOf row) store), within-entries n rows (drop most-values store))
 
 pub length-waiting : {n : ℕ} {rows : List (List ℕ)} {store : List ℕ} → Kept n rows store → length (waitingOf n rows store) ≡ n
 length-waiting {n} {rows} {store} k =
@@ -159,7 +155,7 @@ unfolding prefix entries
 prefix-entries t zero rows store = refl
 prefix-entries t (suc n) [] store = refl
 prefix-entries t (suc n) (row ∷ rows) store =
-    let r = prefix-entries t n rows (drop 513 store) in
+    let r = prefix-entries t n rows (drop most-values store) in
     split (t (headOf row)) (λ h. rw (h, r)) (λ h. rw h)
 
 pub any-entries : (t : DmxData → Bool) (n : ℕ) (rows : List (List ℕ)) (store : List ℕ)
@@ -168,7 +164,7 @@ unfolding any entries
 any-entries t zero rows store = refl
 any-entries t (suc n) [] store = refl
 any-entries t (suc n) (row ∷ rows) store =
-    let r = any-entries t n rows (drop 513 store) in
+    let r = any-entries t n rows (drop most-values store) in
     split (t (headOf row)) (λ h. rw h) (λ h. rw (h, r))
 
 -- a header written as a row reads as itself
@@ -188,53 +184,53 @@ row-back d present hi lo n u a p e = λ i. record {
     flag-back true = refl
     flag-back false = refl
 
-pub count-back : (d : DmxData) (present hi lo n : ℕ) → n ≤ 513 → countOf (rowOf d present hi lo n) ≡ n
+pub count-back : (d : DmxData) (present hi lo n : ℕ) → n ≤ most-values → countOf (rowOf d present hi lo n) ≡ n
 count-back d present hi lo n h = omega arith
 
 -- ── an entry put, and an entry moved ──
 -- the store past the blocks is not touched
-beyond-block : (store vs : List ℕ) (i : ℕ) → i < 64 → length vs ≤ 513 → store-length ≤ length store
-    → drop store-length (pasted store (i * 513) vs) ≡ drop store-length store
-beyond-block store vs i h f l = drop-pasted store (i * 513) vs (omega arith) store-length (omega arith)
+beyond-block : (store vs : List ℕ) (i : ℕ) → i < capacity → length vs ≤ most-values → store-length ≤ length store
+    → drop store-length (pasted store (i * most-values) vs) ≡ drop store-length store
+beyond-block store vs i h f l = drop-pasted store (i * most-values) vs (omega arith) store-length (omega arith)
 
-pub lent-put : (rows : List (List ℕ)) (store : List ℕ) (i : ℕ) (row vs : List ℕ) → Room rows store → i < 64 → length vs ≤ 513
-    → Lent rows store (set rows i row) (pasted store (i * 513) vs)
+pub lent-put : (rows : List (List ℕ)) (store : List ℕ) (i : ℕ) (row vs : List ℕ) → Room rows store → i < capacity → length vs ≤ most-values
+    → Lent rows store (set rows i row) (pasted store (i * most-values) vs)
 lent-put rows store i row vs r h f =
     let a = r .store-room in
     record {
       rows-same = length-set rows i row;
-      store-same = length-pasted store (i * 513) vs (omega arith);
+      store-same = length-pasted store (i * most-values) vs (omega arith);
       beyond = beyond-block store vs i h f a;
     }
 
-pub put-entry : (rows : List (List ℕ)) (store : List ℕ) (i : ℕ) (row vs : List ℕ) (d : DmxData) → Room rows store → i < 64 → length vs ≤ 513
-    → headOf row ≡ d → countOf row ≡ length vs → entries (set rows i row) (pasted store (i * 513) vs) ≡ set (entries rows store) i (dmx d vs)
+pub put-entry : (rows : List (List ℕ)) (store : List ℕ) (i : ℕ) (row vs : List ℕ) (d : DmxData) → Room rows store → i < capacity → length vs ≤ most-values
+    → headOf row ≡ d → countOf row ≡ length vs → entries (set rows i row) (pasted store (i * most-values) vs) ≡ set (entries rows store) i (dmx d vs)
 put-entry rows store i row vs d r h f e c =
     let a = r .rows-length in
     let b = r .store-room in
     entry-set rows store i row vs (omega arith) (omega arith) f c ∙ ap (λ (x : DmxData). set (entries rows store) i (dmx x vs)) e
 
-pub length-block : (rows : List (List ℕ)) (store row : List ℕ) (i : ℕ) → Room rows store → i < 64 → length (take (countOf row) (drop (i * 513) store)) ≡ countOf row
+pub length-block : (rows : List (List ℕ)) (store row : List ℕ) (i : ℕ) → Room rows store → i < capacity → length (take (countOf row) (drop (i * most-values) store)) ≡ countOf row
 length-block rows store row i r h =
     let b = r .store-room in
-    let m : countOf row ≤ 513 = omega arith in
-    length-take-le (countOf row) (drop (i * 513) store) (omega (arith, length-drop (i * 513) store))
+    let m : countOf row ≤ most-values = omega arith in
+    length-take-le (countOf row) (drop (i * most-values) store) (omega (arith, length-drop (i * most-values) store))
 
-pub moved-entry : (rows : List (List ℕ)) (store : List ℕ) (from to : ℕ) → Room rows store → from < 64 → to < 64
-    → entries (set rows to (getD rows from [])) (pasted store (to * 513) (take (countOf (getD rows from [])) (drop (from * 513) store)))
+pub moved-entry : (rows : List (List ℕ)) (store : List ℕ) (from to : ℕ) → Room rows store → from < capacity → to < capacity
+    → entries (set rows to (getD rows from [])) (pasted store (to * most-values) (take (countOf (getD rows from [])) (drop (from * most-values) store)))
     ≡ set (entries rows store) to (getD (entries rows store) from nothing)
 moved-entry rows store from to r h g =
     let row = getD rows from [] in
-    let vs = take (countOf row) (drop (from * 513) store) in
+    let vs = take (countOf row) (drop (from * most-values) store) in
     let l = length-block rows store row from r h in
     let a = r .rows-length in
-    let m : countOf row ≤ 513 = omega arith in
+    let m : countOf row ≤ most-values = omega arith in
     put-entry rows store to row vs (headOf row) r g (omega arith) refl (sym l) ∙ ap (set (entries rows store) to) (sym (entry-at rows store from nothing (omega arith)))
 
 -- ── an entry as the code reads it ──
-pub read-entry : (rows : List (List ℕ)) (store : List ℕ) (i : ℕ) → Room rows store → i < 64 → (d : DmxData) (n : ℕ) → d ≡ headOf (getD rows i []) → n ≡ countOf (getD rows i [])
-    → dmx d (take (i * 513 + n - i * 513) (drop (i * 513) store)) ≡ getD (entries rows store) i nothing
+pub read-entry : (rows : List (List ℕ)) (store : List ℕ) (i : ℕ) → Room rows store → i < capacity → (d : DmxData) (n : ℕ) → d ≡ headOf (getD rows i []) → n ≡ countOf (getD rows i [])
+    → dmx d (take (i * most-values + n - i * most-values) (drop (i * most-values) store)) ≡ getD (entries rows store) i nothing
 read-entry rows store i r h d n e k =
     let a = r .rows-length in
-    let m : i * 513 + n - i * 513 ≡ n = omega arith in
+    let m : i * most-values + n - i * most-values ≡ n = omega arith in
     rw (m, e, k) (sym (entry-at rows store i nothing (omega arith)))

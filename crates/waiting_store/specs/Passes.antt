@@ -14,11 +14,12 @@ use Rattle.table.specs.Arrays.{spent, move, compact-keep, compact-drop}
 use Rattle.table.specs.Gap.{gap, gap-start, gap-move, gap-fill}
 use Rattle.merge.specs.declared.DmxData.{DmxData}
 use Rattle.merge.specs.Merge.{Dmx}
+use Rattle.waiting.specs.Waiting.{capacity}
 use Rattle.waiting_store.specs.Entries.{headOf, entries, nothing, Room, Lent, lent-none, lent-then, length-entries, entry-at}
 use Rattle.waiting_store.specs.Posts.{Changed, Held}
 
 -- as many entries as rows
-pub length-64 : (rows₀ rows : List (List ℕ)) (store₀ store : List ℕ) → Room rows₀ store₀ → Lent rows₀ store₀ rows store → length (entries rows store) ≡ 64
+pub length-64 : (rows₀ rows : List (List ℕ)) (store₀ store : List ℕ) → Room rows₀ store₀ → Lent rows₀ store₀ rows store → length (entries rows store) ≡ capacity
 length-64 rows₀ rows store₀ store r l = length-entries rows store ∙ l .rows-same ∙ r .rows-length
 
 -- the header of an entry is its row's
@@ -39,7 +40,7 @@ module _ (rows₀ : List (List ℕ)) (store₀ : List ℕ) (n : ℕ) where
     so-far = rw (add-one i) (ap (λ (x : List Dmx). x ++ drop (suc i) (take n (entries rows₀ store₀))) (sym (take-take i n (entries rows₀ store₀) (omega arith))));
   }
 
-  pub removing-turn : (i : ℕ) (rows rows′ : List (List ℕ)) (store store′ : List ℕ) (w : ℕ) → Room rows₀ store₀ → n ≤ 64 → Removing i rows store w → w + 1 < n
+  pub removing-turn : (i : ℕ) (rows rows′ : List (List ℕ)) (store store′ : List ℕ) (w : ℕ) → Room rows₀ store₀ → n ≤ capacity → Removing i rows store w → w + 1 < n
       → Changed rows store rows′ store′ (set (entries rows store) w (getD (entries rows store) (w + 1) nothing)) → Removing i rows′ store′ (w + 1)
   removing-turn i rows rows′ store store′ w r b v h c =
       let l = length-64 rows₀ rows store₀ store r (v .lent) in
@@ -49,7 +50,7 @@ module _ (rows₀ : List (List ℕ)) (store₀ : List ℕ) (n : ℕ) where
         so-far = rw (c .becomes) (move (entries rows store) n w (w + 1) nothing (omega arith) h (omega arith) ∙ v .so-far);
       }
 
-  pub removing-end : (i : ℕ) (rows : List (List ℕ)) (store : List ℕ) (w : ℕ) → Room rows₀ store₀ → n ≤ 64 → Removing i rows store w → n ≤ w + 1
+  pub removing-end : (i : ℕ) (rows : List (List ℕ)) (store : List ℕ) (w : ℕ) → Room rows₀ store₀ → n ≤ capacity → Removing i rows store w → n ≤ w + 1
       → Held rows₀ store₀ rows store (n - 1) (removeAt i (take n (entries rows₀ store₀)))
   removing-end i rows store w r b v h =
       let g = v .inside in
@@ -64,12 +65,12 @@ module _ (rows₀ : List (List ℕ)) (store₀ : List ℕ) (n : ℕ) where
     pub lent : Lent rows₀ store₀ rows store
     pub so-far : gap n j (entries rows store) ≡ take n (entries rows₀ store₀)
 
-  pub inserting-start : (i : ℕ) → Room rows₀ store₀ → i ≤ n → n < 64 → Inserting i rows₀ store₀ n
+  pub inserting-start : (i : ℕ) → Room rows₀ store₀ → i ≤ n → n < capacity → Inserting i rows₀ store₀ n
   inserting-start i r h b =
       let l = length-64 rows₀ rows₀ store₀ store₀ r (lent-none rows₀ store₀) in
       record { low = h; high = omega arith; lent = lent-none rows₀ store₀; so-far = gap-start (entries rows₀ store₀) n (omega arith) }
 
-  pub inserting-turn : (i : ℕ) (rows rows′ : List (List ℕ)) (store store′ : List ℕ) (j : ℕ) → Room rows₀ store₀ → n < 64 → Inserting i rows store j → i < j
+  pub inserting-turn : (i : ℕ) (rows rows′ : List (List ℕ)) (store store′ : List ℕ) (j : ℕ) → Room rows₀ store₀ → n < capacity → Inserting i rows store j → i < j
       → Changed rows store rows′ store′ (set (entries rows store) j (getD (entries rows store) (j - 1) nothing)) → Inserting i rows′ store′ (j - 1)
   inserting-turn i rows rows′ store store′ j r b v h c =
       let l = length-64 rows₀ rows store₀ store r (v .lent) in
@@ -81,7 +82,7 @@ module _ (rows₀ : List (List ℕ)) (store₀ : List ℕ) (n : ℕ) where
         so-far = rw (c .becomes) (gap-move (entries rows store) n (omega arith) j nothing (omega arith) g ∙ v .so-far);
       }
 
-  pub inserting-end : (i : ℕ) (rows rows′ : List (List ℕ)) (store store′ : List ℕ) (x : Dmx) → Room rows₀ store₀ → n < 64 → Inserting i rows store i
+  pub inserting-end : (i : ℕ) (rows rows′ : List (List ℕ)) (store store′ : List ℕ) (x : Dmx) → Room rows₀ store₀ → n < capacity → Inserting i rows store i
       → Changed rows store rows′ store′ (set (entries rows store) i x) → Held rows₀ store₀ rows′ store′ (n + 1) (insertAt i x (take n (entries rows₀ store₀)))
   inserting-end i rows rows′ store store′ x r b v c =
       let l = length-64 rows₀ rows store₀ store r (v .lent) in
@@ -103,7 +104,7 @@ module _ (rows₀ : List (List ℕ)) (store₀ : List ℕ) (n : ℕ) where
     pub keeping-start : Keeping rows₀ store₀ 0 0
     keeping-start = record { behind = omega arith; inside = omega arith; lent = lent-none rows₀ store₀; so-far = refl }
 
-    module _ (rows : List (List ℕ)) (store : List ℕ) (kept i : ℕ) (r : Room rows₀ store₀) (b : n ≤ 64) (v : Keeping rows store kept i) where
+    module _ (rows : List (List ℕ)) (store : List ℕ) (kept i : ℕ) (r : Room rows₀ store₀) (b : n ≤ capacity) (v : Keeping rows store kept i) where
       pub keeping-drop : i < n → t (headOf (getD rows i [])) ≡ false → Keeping rows store kept (i + 1)
       keeping-drop h e =
           let l = length-64 rows₀ rows store₀ store r (v .lent) in

@@ -14,8 +14,9 @@ use Rattle.table.specs.Place.{prefix}
 use Rattle.table.specs.Parts.{pasted}
 use Rattle.rules.specs.Age.{expired}
 use Rattle.merge.specs.declared.DmxData.{DmxData}
-use Rattle.merge.specs.Merge.{Dmx}
+use Rattle.merge.specs.Merge.{Dmx, most-values}
 use Rattle.merge.specs.Views.{dmx}
+use Rattle.waiting.specs.Waiting.{capacity}
 use Rattle.waiting_store.specs.declared.Found.{Found}
 use Rattle.waiting_store.specs.declared.Found.the-variants.{At, Before}
 use Rattle.waiting_store.specs.declared.Retain.{Retain}
@@ -53,30 +54,30 @@ Sought u n rows (Before i) = (i ≡ prefix (λ row. below u (headOf row)) (take 
 
 -- two blocks that do not overlap
 abbrev pub Apart : ℕ → ℕ → Type 0
-Apart a b = (a + 513 ≤ b) ⊎ (b + 513 ≤ a)
+Apart a b = (a + most-values ≤ b) ⊎ (b + most-values ≤ a)
 
 -- ── laws: one for each way that an entry is put ──
-pub changed-put : (rows : List (List ℕ)) (store store′ : List ℕ) (i : ℕ) (row vs : List ℕ) (d : DmxData) → Room rows store → i < 64 → length vs ≤ 513
-    → Rowed d (length vs) row → store′ ≡ pasted store (i * 513) vs → Changed rows store (set rows i row) store′ (set (entries rows store) i (dmx d vs))
+pub changed-put : (rows : List (List ℕ)) (store store′ : List ℕ) (i : ℕ) (row vs : List ℕ) (d : DmxData) → Room rows store → i < capacity → length vs ≤ most-values
+    → Rowed d (length vs) row → store′ ≡ pasted store (i * most-values) vs → Changed rows store (set rows i row) store′ (set (entries rows store) i (dmx d vs))
 changed-put rows store store′ i row vs d r h f w e = record {
   lent = rw e (lent-put rows store i row vs r h f);
   becomes = rw e (put-entry rows store i row vs d r h f (w .head-back) (w .count-back));
 }
 
-pub changed-move : (rows : List (List ℕ)) (store store′ : List ℕ) (from to n : ℕ) → Room rows store → from < 64 → to < 64
-    → n ≡ countOf (getD rows from []) → store′ ≡ pasted store (to * 513) (take n (drop (from * 513) store))
+pub changed-move : (rows : List (List ℕ)) (store store′ : List ℕ) (from to n : ℕ) → Room rows store → from < capacity → to < capacity
+    → n ≡ countOf (getD rows from []) → store′ ≡ pasted store (to * most-values) (take n (drop (from * most-values) store))
     → Changed rows store (set rows to (getD rows from [])) store′ (set (entries rows store) to (getD (entries rows store) from nothing))
 changed-move rows store store′ from to n r h g k e =
     let row = getD rows from [] in
-    let vs = take (countOf row) (drop (from * 513) store) in
-    let f : store′ ≡ pasted store (to * 513) vs = rw k at e in
+    let vs = take (countOf row) (drop (from * most-values) store) in
+    let f : store′ ≡ pasted store (to * most-values) vs = rw k at e in
     let l = length-block rows store row from r h in
-    let m : countOf row ≤ 513 = omega arith in
+    let m : countOf row ≤ most-values = omega arith in
     record {
       lent = rw f (lent-put rows store to row vs r g (omega arith));
       becomes = rw f (moved-entry rows store from to r h g);
     }
 
 -- places that differ have blocks apart
-pub blocks-apart : (a b : ℕ) → a ≢ b → Apart (a * 513) (b * 513)
+pub blocks-apart : (a b : ℕ) → a ≢ b → Apart (a * most-values) (b * most-values)
 blocks-apart a b n = tri ltb ℕ-order a b (λ p q. inl (omega (arith, ltb-true a b p))) (λ e. absurd (n e)) (λ p q. inr (omega (arith, ltb-true b a q)))

@@ -17,9 +17,10 @@ use Rattle.rules.specs.Bytes.{bigEndian}
 use Rattle.merge.specs.declared.DmxData.{DmxData}
 use Rattle.merge.specs.Merge.{Dmx}
 use Rattle.merge.specs.Views.{dmx}
-use Rattle.waiting.specs.Waiting.{fresh, of-address, released}
+use Rattle.waiting.specs.Waiting.{fresh, of-address, released, capacity}
 use Rattle.waiting.specs.Records.{bit, owner, encode, records, over}
 use Rattle.waiting.specs.Laws.{length-encode, records-within, within-keep}
+use Rattle.waiting.specs.Answers.{release-length}
 use Rattle.waiting_store.specs.Entries.{entries, Room, within-entries}
 
 -- ── the parts of a record ──
@@ -173,10 +174,10 @@ module _ (now a : ℕ) where
         })
 
 -- the output has room for all that the entries may release
-pub release-room : (now a n : ℕ) (rows : List (List ℕ)) (store out : List ℕ) → Room rows store → n ≤ 64 → 35072 ≤ length out
+pub release-room : (now a n : ℕ) (rows : List (List ℕ)) (store out : List ℕ) → Room rows store → n ≤ capacity → release-length ≤ length out
     → length (records (keep (dueOf now a) (take n (entries rows store)))) ≤ length out
 release-room now a n rows store out r h l =
     let ds = take n (entries rows store) in
     let k = length-keep (dueOf now a) ds in
-    let f : length (keep (dueOf now a) ds) ≤ 64 = omega (arith, length-take n (entries rows store)) in
+    let f : length (keep (dueOf now a) ds) ≤ capacity = omega (arith, length-take n (entries rows store)) in
     omega (arith, records-within (keep (dueOf now a) ds) f (within-keep (dueOf now a) ds (within-entries n rows store)))

@@ -10,16 +10,26 @@ ghost use lib.ListN.{length, take, drop, getD, set};
 ghost use Rattle.table.specs.Table.{any, keep};
 ghost use Rattle.table.specs.Place.{prefix, insertAt, removeAt};
 ghost use Rattle.table.specs.Parts.{pasted};
-ghost use Rattle.merge.specs.Merge.{Dmx};
+ghost use Rattle.merge.specs.Merge.{Dmx, most-values};
 ghost use Rattle.merge.specs.Views.{dmx};
-ghost use Rattle.waiting.specs.Waiting.{released};
+ghost use Rattle.waiting.specs.Waiting.{capacity, released};
 ghost use Rattle.waiting.specs.Records.{bit};
-ghost use Rattle.waiting_store.specs.Entries.{headOf, countOf, ownerOf, rowOf, entries, nothing, Room};
-ghost use Rattle.waiting_store.specs.Posts.{Rowed, Changed, Held, below, Apart, retained, Sought};
+ghost use Rattle.waiting.specs.Answers.{release-length};
+ghost use Rattle.waiting_store.specs.Entries.{headOf, countOf, ownerOf, rowOf, nothing, Room};
+ghost use Rattle.waiting_store.specs.Posts.{Rowed, below, Apart, retained, Sought};
+ghost use Rattle.waiting_store.specs.Lent.{entriesIn, Become, FirstBecome};
 ghost use Rattle.waiting_store.specs.Written.{frontBytes, backBytes, due, Laid, Writing};
 use merge::DmxData;
 use merge::SourceCid;
+use merge::VALUES;
 use rules::Cid;
+use waiting::WAITING;
+
+// A header as words: universe, address, priority, preview, CID present, CID high, CID low, reading, value count.
+pub type EntryRow = [u64; 9];
+
+// The rows of all universes that can wait.
+pub type EntryRows = [EntryRow; WAITING];
 
 // A flag as a word.
 fn word_of(on: bool) -> u64
@@ -39,7 +49,7 @@ fn source_of(present: u64, hi: u64, lo: u64) -> SourceCid
 }
 
 // A row as its header.
-pub fn head_of(row: [u64; 9]) -> DmxData
+pub fn head_of(row: EntryRow) -> DmxData
     ensures { λ r. ⌜ r ≡ headOf row ⌝ }
 {
     let source = source_of(row[4], row[5], row[6]);
@@ -54,14 +64,18 @@ pub fn head_of(row: [u64; 9]) -> DmxData
 }
 
 // How many values its block has.
-pub fn count_of(row: [u64; 9]) -> usize
+pub fn count_of(row: EntryRow) -> usize
     ensures { λ r. ⌜ r ≡ countOf row ⌝ }
 {
-    if row[8] < 513 { row[8] as usize } else { 513 }
+    if row[8] < VALUES as u64 {
+        row[8] as usize
+    } else {
+        VALUES
+    }
 }
 
 // A header and a CID's words as a row.
-fn row_with(d: DmxData, present: u64, hi: u64, lo: u64, n: usize) -> [u64; 9]
+fn row_with(d: DmxData, present: u64, hi: u64, lo: u64, n: usize) -> EntryRow
     ensures { λ r. ⌜ r ≡ rowOf d present hi lo n ⌝ }
 {
     [
@@ -78,8 +92,8 @@ fn row_with(d: DmxData, present: u64, hi: u64, lo: u64, n: usize) -> [u64; 9]
 }
 
 // A header and a value count as a row.
-fn row_of(d: DmxData, n: usize) -> [u64; 9]
-    requires { ⌜ n ≤ 513 ⌝ }
+fn row_of(d: DmxData, n: usize) -> EntryRow
+    requires { ⌜ n ≤ most-values ⌝ }
     ensures { λ r. ⌜ Rowed d n r ⌝ }
 {
     let source = d.src_cid;
@@ -91,7 +105,7 @@ fn row_of(d: DmxData, n: usize) -> [u64; 9]
 
 // The first n bytes from one place laid over another; the two places are apart.
 fn move_block(store: &mut [u8], from: usize, to: usize, n: usize)
-    requires { ⌜ (n ≤ 513) × (from + 513 ≤ length (now store)) × (to + 513 ≤ length (now store)) × Apart from to ⌝ }
+    requires { ⌜ (n ≤ most-values) × (from + most-values ≤ length (now store)) × (to + most-values ≤ length (now store)) × Apart from to ⌝ }
     ensures { λ r. ⌜ now (store .exit) ≡ pasted (now (store .entry)) to (take n (drop from (now (store .entry)))) ⌝ }
 {
     let mut k: usize = 0;
@@ -102,8 +116,8 @@ fn move_block(store: &mut [u8], from: usize, to: usize, n: usize)
 }
 
 // How many rows at the front are of universes below this one.
-fn place_of(rows: &[[u64; 9]; 64], n: usize, universe: u16) -> usize
-    requires { ⌜ (n ≤ 64) × (length (now rows) ≡ 64) ⌝ }
+fn place_of(rows: &EntryRows, n: usize, universe: u16) -> usize
+    requires { ⌜ (n ≤ capacity) × (length (now rows) ≡ capacity) ⌝ }
     ensures { λ r. ⌜ r ≡ prefix (λ row. below universe (headOf row)) (take n (now (rows .entry))) ⌝ }
 {
     let mut i: usize = 0;
@@ -121,31 +135,34 @@ fn place_of(rows: &[[u64; 9]; 64], n: usize, universe: u16) -> usize
 
 // An entry put at place i: its row and its block.
 // For `waiting_calls`.
-pub fn write_entry(rows: &mut [[u64; 9]; 64], store: &mut [u8], i: usize, d: DmxData, values: &[u8])
-    requires { ⌜ Room (now rows) (now store) × (i < 64) × (length (now values) ≤ 513) ⌝ }
-    ensures { λ r. ⌜ Changed (now (rows .entry)) (now (store .entry)) (now (rows .exit)) (now (store .exit)) (set (entries (now (rows .entry)) (now (store .entry))) i (dmx d (now (values .entry)))) ⌝ }
+pub fn write_entry(rows: &mut EntryRows, store: &mut [u8], i: usize, d: DmxData, values: &[u8])
+    requires { ⌜ Room (now rows) (now store) × (i < capacity) × (length (now values) ≤ most-values) ⌝ }
+    ensures { λ r. let es = entriesIn rows store in
+        ⌜ Become rows store (set (es .entry) i (dmx d (now (values .entry)))) ⌝ }
 {
     let row = row_of(d, values.len());
     rows[i] = row;
-    merge::copy_values(values, store, i * 513);
+    merge::copy_values(values, store, i * VALUES);
 }
 
 // The entry at one place put at another, too.
-fn move_entry(rows: &mut [[u64; 9]; 64], store: &mut [u8], from: usize, to: usize)
-    requires { ⌜ Room (now rows) (now store) × (from < 64) × (to < 64) × (from ≢ to) ⌝ }
-    ensures { λ r. ⌜ Changed (now (rows .entry)) (now (store .entry)) (now (rows .exit)) (now (store .exit)) (set (entries (now (rows .entry)) (now (store .entry))) to (getD (entries (now (rows .entry)) (now (store .entry))) from nothing)) ⌝ }
+fn move_entry(rows: &mut EntryRows, store: &mut [u8], from: usize, to: usize)
+    requires { ⌜ Room (now rows) (now store) × (from < capacity) × (to < capacity) × (from ≢ to) ⌝ }
+    ensures { λ r. let es = entriesIn rows store in
+        ⌜ Become rows store (set (es .entry) to (getD (es .entry) from nothing)) ⌝ }
 {
     let row = rows[from];
     let n = count_of(row);
     rows[to] = row;
-    move_block(store, from * 513, to * 513, n);
+    move_block(store, from * VALUES, to * VALUES, n);
 }
 
 // Place i taken out of the first n entries: the later ones move down.
 // For `waiting_calls`.
-pub fn remove_at(rows: &mut [[u64; 9]; 64], store: &mut [u8], n: usize, i: usize)
-    requires { ⌜ Room (now rows) (now store) × (i < n) × (n ≤ 64) ⌝ }
-    ensures { λ r. ⌜ Held (now (rows .entry)) (now (store .entry)) (now (rows .exit)) (now (store .exit)) (n - 1) (removeAt i (take n (entries (now (rows .entry)) (now (store .entry))))) ⌝ }
+pub fn remove_at(rows: &mut EntryRows, store: &mut [u8], n: usize, i: usize)
+    requires { ⌜ Room (now rows) (now store) × (i < n) × (n ≤ capacity) ⌝ }
+    ensures { λ r. let es = entriesIn rows store in
+        ⌜ FirstBecome rows store (n - 1) (removeAt i (take n (es .entry))) ⌝ }
 {
     let mut w = i;
     while w + 1 < n {
@@ -157,15 +174,16 @@ pub fn remove_at(rows: &mut [[u64; 9]; 64], store: &mut [u8], n: usize, i: usize
 // An entry put in before place i of the first n: the later ones move up, from the top.
 // For `waiting_calls`.
 pub fn insert_at(
-    rows: &mut [[u64; 9]; 64],
+    rows: &mut EntryRows,
     store: &mut [u8],
     n: usize,
     i: usize,
     d: DmxData,
     values: &[u8],
 )
-    requires { ⌜ Room (now rows) (now store) × (i ≤ n) × (n < 64) × (length (now values) ≤ 513) ⌝ }
-    ensures { λ r. ⌜ Held (now (rows .entry)) (now (store .entry)) (now (rows .exit)) (now (store .exit)) (n + 1) (insertAt i (dmx d (now (values .entry))) (take n (entries (now (rows .entry)) (now (store .entry))))) ⌝ }
+    requires { ⌜ Room (now rows) (now store) × (i ≤ n) × (n < capacity) × (length (now values) ≤ most-values) ⌝ }
+    ensures { λ r. let es = entriesIn rows store in
+        ⌜ FirstBecome rows store (n + 1) (insertAt i (dmx d (now (values .entry))) (take n (es .entry))) ⌝ }
 {
     let mut j = n;
     while i < j {
@@ -176,9 +194,10 @@ pub fn insert_at(
 }
 
 // An entry that a pass keeps moves down over those it gave up, if there are any.
-fn keep_entry(rows: &mut [[u64; 9]; 64], store: &mut [u8], from: usize, to: usize)
-    requires { ⌜ Room (now rows) (now store) × (to ≤ from) × (from < 64) ⌝ }
-    ensures { λ r. ⌜ Changed (now (rows .entry)) (now (store .entry)) (now (rows .exit)) (now (store .exit)) (set (entries (now (rows .entry)) (now (store .entry))) to (getD (entries (now (rows .entry)) (now (store .entry))) from nothing)) ⌝ }
+fn keep_entry(rows: &mut EntryRows, store: &mut [u8], from: usize, to: usize)
+    requires { ⌜ Room (now rows) (now store) × (to ≤ from) × (from < capacity) ⌝ }
+    ensures { λ r. let es = entriesIn rows store in
+        ⌜ Become rows store (set (es .entry) to (getD (es .entry) from nothing)) ⌝ }
 {
     if to < from {
         move_entry(rows, store, from, to);
@@ -208,8 +227,8 @@ fn is_retained(test: Retain, d: DmxData) -> bool
 
 // Is there an entry among the first n that the pass would not keep.
 // For `waiting_calls`.
-pub fn any_dropped(rows: &[[u64; 9]; 64], n: usize, test: Retain) -> bool
-    requires { ⌜ (n ≤ 64) × (length (now rows) ≡ 64) ⌝ }
+pub fn any_dropped(rows: &EntryRows, n: usize, test: Retain) -> bool
+    requires { ⌜ (n ≤ capacity) × (length (now rows) ≡ capacity) ⌝ }
     ensures { λ r. ⌜ r ≡ any (λ row. not (retained test (headOf row))) (take n (now (rows .entry))) ⌝ }
 {
     let mut i: usize = 0;
@@ -227,9 +246,10 @@ pub fn any_dropped(rows: &[[u64; 9]; 64], n: usize, test: Retain) -> bool
 
 // The entries that pass the test, moved down over the others; how many they are.
 // For `waiting_calls`.
-pub fn compact(rows: &mut [[u64; 9]; 64], store: &mut [u8], n: usize, test: Retain) -> usize
-    requires { ⌜ Room (now rows) (now store) × (n ≤ 64) ⌝ }
-    ensures { λ r. ⌜ (r ≤ n) × Held (now (rows .entry)) (now (store .entry)) (now (rows .exit)) (now (store .exit)) r (keep (λ (e : Dmx). retained test (e .head)) (take n (entries (now (rows .entry)) (now (store .entry))))) ⌝ }
+pub fn compact(rows: &mut EntryRows, store: &mut [u8], n: usize, test: Retain) -> usize
+    requires { ⌜ Room (now rows) (now store) × (n ≤ capacity) ⌝ }
+    ensures { λ r. let es = entriesIn rows store in
+        ⌜ (r ≤ n) × FirstBecome rows store r (keep (λ (e : Dmx). retained test (e .head)) (take n (es .entry))) ⌝ }
 {
     let mut kept: usize = 0;
     let mut i: usize = 0;
@@ -255,8 +275,8 @@ pub enum Found {
 }
 
 // For `waiting_calls`.
-pub fn find_universe(rows: &[[u64; 9]; 64], n: usize, universe: u16) -> Found
-    requires { ⌜ (n ≤ 64) × (length (now rows) ≡ 64) ⌝ }
+pub fn find_universe(rows: &EntryRows, n: usize, universe: u16) -> Found
+    requires { ⌜ (n ≤ capacity) × (length (now rows) ≡ capacity) ⌝ }
     ensures { λ r. ⌜ Sought universe n (now (rows .entry)) r ⌝ }
 {
     let i = place_of(rows, n, universe);
@@ -326,7 +346,8 @@ fn write_parts(
     values: &[u8],
 ) -> usize
     requires { ⌜ at + 35 + length (now values) ≤ length (now out) ⌝ }
-    ensures { λ r. ⌜ (r ≡ at + 35 + length (now (values .entry))) × (now (out .exit) ≡ pasted (now (out .entry)) at (front ++ (cid ++ (back ++ now (values .entry))))) ⌝ }
+    ensures { λ r. ⌜ (r ≡ at + 35 + length (now (values .entry)))
+        × (now (out .exit) ≡ pasted (now (out .entry)) at (front ++ (cid ++ (back ++ now (values .entry))))) ⌝ }
 {
     merge::copy_values(&front, &mut *out, at);
     merge::copy_values(&cid, &mut *out, at + 9);
@@ -378,15 +399,16 @@ pub struct Written {
 // The records of an address's live data among the first n entries, laid over the output.
 // For `waiting_calls`.
 pub fn write_release(
-    rows: &[[u64; 9]; 64],
+    rows: &EntryRows,
     store: &[u8],
     n: usize,
     address: u16,
     reading: u64,
     out: &mut [u8],
 ) -> Written
-    requires { ⌜ Room (now rows) (now store) × (n ≤ 64) × (35072 ≤ length (now out)) ⌝ }
-    ensures { λ r. ⌜ Writing (released reading address (take n (entries (now (rows .entry)) (now (store .entry))))) (now (out .entry)) (now (out .exit)) (r .records) (r .bytes) ⌝ }
+    requires { ⌜ Room (now rows) (now store) × (n ≤ capacity) × (release-length ≤ length (now out)) ⌝ }
+    ensures { λ r. let es = entriesIn rows store in
+        ⌜ Writing (released reading address (take n (es .entry))) (now (out .entry)) (now (out .exit)) (r .records) (r .bytes) ⌝ }
 {
     let mut i: usize = 0;
     let mut at: usize = 0;
@@ -395,7 +417,7 @@ pub fn write_release(
         let row = rows[i];
         let d = head_of(row);
         if is_due(d, address, reading) {
-            let a = i * 513;
+            let a = i * VALUES;
             let b = a + count_of(row);
             at = write_record(&mut *out, at, d, &store[a..b]);
             records += 1;

@@ -6,7 +6,7 @@ use Prim.Native.Nat.{ℕ, _≤_}
 use native.Mathlib.Omega.{arith}
 use lib.ListN.{length, length-take, replicate}
 use lib.Seq.{length-take-le}
-use Rattle.merge.specs.Merge.{Dmx, htp-answer, htp-output}
+use Rattle.merge.specs.Merge.{Dmx, htp-answer, htp-output, most-values}
 use Rattle.merge.specs.Views.{dmx}
 use Rattle.waiting_store.specs.Entries.{read-entry}
 use Rattle.waiting_calls.specs.Joins.{entry, blend-refused, blend-long, blend-short, blend-count, blend-merged}
@@ -25,26 +25,26 @@ waits s = entry (s .args .rows .now) (s .args .store .now) (s .args .i) (s .pre 
 
 -- the block that the merge was lent
 abbrev lent : List ℕ
-lent = replicate 513 0
+lent = replicate most-values 0
 
-told : (k : tie.After-htp-dmx-merge) → k .htp-dmx-merge .result ≡ htp-answer 513 (waits (start k)) (packet (start k))
+told : (k : tie.After-htp-dmx-merge) → k .htp-dmx-merge .result ≡ htp-answer most-values (waits (start k)) (packet (start k))
 told k =
     let s = start k in
     let v = s .args in
     let n = k .before .before .before .before .count-of in
     let d = k .before .before .before .before .before .head-of in
     k .htp-dmx-merge .ensures .0
-    ∙ ap (λ (x : Dmx). htp-answer 513 x (packet s)) (read-entry (v .rows .now) (v .store .now) (v .i) (s .pre .0) (s .pre .1) (d .result) (n .result) (d .ensures) (n .ensures))
+    ∙ ap (λ (x : Dmx). htp-answer most-values x (packet s)) (read-entry (v .rows .now) (v .store .now) (v .i) (s .pre .0) (s .pre .1) (d .result) (n .result) (d .ensures) (n .ensures))
 
 -- a merged block is within 513 bytes, all of which are there
-fits : (a : tie.After-d) → a .d .given .0 .1 .0 ≤ 513
+fits : (a : tie.After-d) → a .d .given .0 .1 .0 ≤ most-values
 fits a =
     let k = a .before .before .before in
     let s = start k in
     let v = s .args in
-    blend-count (v .rows .now) (v .store .now) (v .i) (s .pre .0) (s .pre .1) (packet s) (s .pre .2) 513 (a .d .given .0 .0) (a .d .given .0 .1 .0) (sym (told k) ∙ a .d .given .1)
+    blend-count (v .rows .now) (v .store .now) (v .i) (s .pre .0) (s .pre .1) (packet s) (s .pre .2) most-values (a .d .given .0 .0) (a .d .given .0 .1 .0) (sym (told k) ∙ a .d .given .1)
 
-whole : (k : tie.After-htp-dmx-merge) → length (k .htp-dmx-merge .last .1 .1 .1 .1 .0) ≡ 513
+whole : (k : tie.After-htp-dmx-merge) → length (k .htp-dmx-merge .last .1 .1 .1 .1 .0) ≡ most-values
 whole k = k .htp-dmx-merge .kept .1 .1 .1 .1 .0
 
 mul-row : tie.Need-mul-row
@@ -123,7 +123,7 @@ returns c =
     let o = k .htp-dmx-merge .ensures .1 .0
     ∙ ap (λ (x : Dmx). htp-output (k .htp-dmx-merge .result) x (packet s) lent)
     (read-entry (v .rows .now) (v .store .now) (v .i) (s .pre .0) (s .pre .1) (d .result) (n .result) (d .ensures) (n .ensures)) in
-    blend-merged (v .rows .now) (v .store .now) (v .i) (s .pre .0) (s .pre .1) (packet s) (s .pre .2) 513 (m .write-entry .last .0) (m .write-entry .last .1 .0) (a .d .given .0 .0) (a .d .given .0 .1 .0)
+    blend-merged (v .rows .now) (v .store .now) (v .i) (s .pre .0) (s .pre .1) (packet s) (s .pre .2) most-values (m .write-entry .last .0) (m .write-entry .last .1 .0) (a .d .given .0 .0) (a .d .given .0 .1 .0)
     (k .htp-dmx-merge .result) lent (k .htp-dmx-merge .last .1 .1 .1 .1 .0) (told k) (a .d .given .1) o (m .write-entry .ensures)
 
 same-length-2 : tie.Need-same-length-2
@@ -134,7 +134,7 @@ returns-2 c =
     let k = c .before .before .before in
     let s = start k in
     let v = s .args in
-    blend-long (v .rows .now) (v .store .now) (v .i) (s .pre .0) (s .pre .1) (packet s) (s .pre .2) 513 (sym (told k) ∙ c .enum-told .given .1)
+    blend-long (v .rows .now) (v .store .now) (v .i) (s .pre .0) (s .pre .1) (packet s) (s .pre .2) most-values (sym (told k) ∙ c .enum-told .given .1)
 
 same-length-3 : tie.Need-same-length-3
 same-length-3 c = search needs
@@ -144,7 +144,7 @@ returns-3 c =
     let k = c .before .before .before in
     let s = start k in
     let v = s .args in
-    blend-refused (v .rows .now) (v .store .now) (v .i) (s .pre .0) (s .pre .1) (packet s) (s .pre .2) 513 (sym (told k) ∙ c .enum-told2 .given .1)
+    blend-refused (v .rows .now) (v .store .now) (v .i) (s .pre .0) (s .pre .1) (packet s) (s .pre .2) most-values (sym (told k) ∙ c .enum-told2 .given .1)
 
 same-length-4 : tie.Need-same-length-4
 same-length-4 c = search needs
@@ -154,7 +154,7 @@ returns-4 c =
     let k = c .before .before .before in
     let s = start k in
     let v = s .args in
-    blend-short (v .rows .now) (v .store .now) (v .i) (s .pre .0) (s .pre .1) (packet s) (s .pre .2) 513 (omega arith) (sym (told k) ∙ c .enum-told3 .given .1)
+    blend-short (v .rows .now) (v .store .now) (v .i) (s .pre .0) (s .pre .1) (packet s) (s .pre .2) most-values (omega arith) (sym (told k) ∙ c .enum-told3 .given .1)
 
 pub blend-entry-spec : {M : Type 1} → statement M
 blend-entry-spec =

@@ -6,7 +6,7 @@ use Prim.Native.Nat.{ℕ, _≤_}
 use lib.ListN.{length, take, set}
 use lib.Seq.{take-length}
 use Rattle.merge.specs.declared.Choice.the-variants.{Newer}
-use Rattle.merge.specs.Merge.{Dmx, choice}
+use Rattle.merge.specs.Merge.{Dmx, choice, most-values}
 use Rattle.merge.specs.Views.{dmx}
 use Rattle.merge.specs.Answers.{newer-chosen}
 use Rattle.waiting_store.specs.Entries.{entries, read-entry}
@@ -107,7 +107,7 @@ write-entry-requires c κs =
     let t = c .before .before .before in
     let g = t .before .before in
     let s = start (chosen-by g) in
-    (s .pre .0, s .pre .1, subst (λ (l : List ℕ). length l ≤ 513) (sym (whole g (t .enum-told2 .given .1))) (s .pre .2))
+    (s .pre .0, s .pre .1, subst (λ (l : List ℕ). length l ≤ most-values) (sym (whole g (t .enum-told2 .given .1))) (s .pre .2))
 
 enum-told-3 : tie.Need-enum-told-3
 enum-told-3 c = search needs

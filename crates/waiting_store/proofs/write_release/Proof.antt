@@ -6,6 +6,7 @@ use native.Mathlib.Omega.{arith}
 use lib.ListN.{length, take, getD, length-take}
 use Rattle.merge.specs.Merge.{Dmx}
 use Rattle.table.specs.Parts.{pasted}
+use Rattle.waiting.specs.Waiting.{capacity}
 use Rattle.waiting_store.specs.Entries.{entries, nothing, length-entries, read-entry}
 use Rattle.waiting.specs.Records.{encode, records}
 use Rattle.waiting_store.specs.Passes.{head-at}
@@ -48,7 +49,7 @@ asked k =
     ap (due (s .args .reading) (s .args .address)) (head-at (s .args .rows .now) (s .args .store .now) (k .before .before .before .before .loop .i) (omega arith) ∙ sym (k .before .head-of .ensures))
     ∙ sym (k .is-due .ensures)
 
-inside : (k : tie.After-is-due Inv-loop μ-loop) → k .before .before .before .before .loop .i < 64
+inside : (k : tie.After-is-due Inv-loop μ-loop) → k .before .before .before .before .loop .i < capacity
 inside k = let p = placed k in let r = start k .pre .0 .rows-length in omega (arith, length-entries (start k .args .rows .now) (start k .args .store .now))
 
 loop-holds : tie.Need-loop-holds Inv-loop μ-loop

@@ -6,7 +6,7 @@ use mathlib.Core.List.{List}
 use Prim.Native.Nat.{ℕ, _+_, _-_, _≤_}
 use native.Mathlib.Omega.{arith}
 use lib.ListN.{length, getD}
-use Rattle.merge.specs.Merge.{Dmx}
+use Rattle.merge.specs.Merge.{Dmx, most-values}
 use Rattle.merge.specs.Views.{dmx}
 use Rattle.waiting.specs.declared.StoreAnswer.{StoreAnswer}
 use Rattle.waiting.specs.declared.StoreAnswer.the-variants as store
@@ -34,7 +34,7 @@ at a =
     let v = start a .args in
     subst (λ (r : Found). Sought (v .packet .universe) (v .self .count) (v .rows .now) r) (a .i .given .1) (a .before .before .find-universe .ensures)
 
-fits : (a : tie.After-i) → length (start a .args .values .now) ≤ 513
+fits : (a : tie.After-i) → length (start a .args .values .now) ≤ most-values
 fits a = a .before .before .before .before .if1 .left
 
 -- and where it belongs
@@ -46,11 +46,11 @@ before a =
     let v = start₂ a .args in
     subst (λ (r : Found). Sought (v .packet .universe) (v .self .count) (v .rows .now) r) (a .i2 .given .1) (a .before .before .find-universe .ensures)
 
-fits₂ : (a : tie.After-i2) → length (start₂ a .args .values .now) ≤ 513
+fits₂ : (a : tie.After-i2) → length (start₂ a .args .values .now) ≤ most-values
 fits₂ a = a .before .before .before .before .if1 .left
 
 -- a packet that was stored or refused, as the call
-call : (s : tie.Start) (rows : List (List ℕ)) (store : List ℕ) (m : ℕ) → length (s .args .values .now) ≤ 513 → (a : StoreAnswer)
+call : (s : tie.Start) (rows : List (List ℕ)) (store : List ℕ) (m : ℕ) → length (s .args .values .now) ≤ most-values → (a : StoreAnswer)
     → StoredCall (s .args .self .count) (s .args .rows .now) (s .args .store .now) (s .args .choice) (packet s) rows store m a
     → StoreCalled (s .args .self .count) (s .args .rows .now) (s .args .store .now) (s .args .choice) (packet s) rows store m (Taken a)
 call s rows store m f a c =
