@@ -7,13 +7,19 @@ ghost use lib.Dec.{ltb};
 ghost use Rattle.table.specs.Place.{place, insertAt, removeAt};
 ghost use Rattle.model.specs.State.{itself, listens};
 ghost use Rattle.listening.specs.View.{Kept, listenedOf, listened, spotOf, illegalOf, Stands, Fresh, Joins, Listens, Mutes};
-ghost use Rattle.model.specs.Step.{illegal, joined-by};
+ghost use Rattle.model.specs.Step.{most-listened, illegal, joined-by};
 use model::ListenAnswer;
 use model::MuteAnswer;
 use rules::is_universe_in_range;
 
 // Universe discovery is sent there.
 pub const E131_DISCOVERY_UNIVERSE: u16 = 64214;
+
+// Universes that can be listened to.
+pub const LISTENED: usize = 1024;
+
+// The memory that a caller lends for them.
+pub type ListenedUniverses = [u16; LISTENED];
 
 // The lent rows hold the universes in ascending order; the first count are in use.
 pub struct Listened {
@@ -51,8 +57,8 @@ enum Illegal {
 }
 
 // How many of the first n universes are below this one.
-fn place_of(rows: &[u16; 1024], n: usize, universe: u16) -> usize
-    requires { ⌜ (n ≤ 1024) × (length (now rows) ≡ 1024) ⌝ }
+fn place_of(rows: &ListenedUniverses, n: usize, universe: u16) -> usize
+    requires { ⌜ (n ≤ most-listened) × (length (now rows) ≡ most-listened) ⌝ }
     ensures { λ r. ⌜ (r ≤ n) × (r ≡ place ltb itself universe (take n (now (rows .entry)))) ⌝ }
 {
     let mut i: usize = 0;
@@ -68,8 +74,8 @@ fn place_of(rows: &[u16; 1024], n: usize, universe: u16) -> usize
 }
 
 // Where this universe stands among the first n, or would be put in.
-fn find(rows: &[u16; 1024], n: usize, universe: u16) -> Spot
-    requires { ⌜ (n ≤ 1024) × (length (now rows) ≡ 1024) ⌝ }
+fn find(rows: &ListenedUniverses, n: usize, universe: u16) -> Spot
+    requires { ⌜ (n ≤ most-listened) × (length (now rows) ≡ most-listened) ⌝ }
     ensures { λ r. ⌜ r ≡ spotOf universe (take n (now (rows .entry))) ⌝ }
 {
     let i = place_of(rows, n, universe);
@@ -84,9 +90,9 @@ fn find(rows: &[u16; 1024], n: usize, universe: u16) -> Spot
 }
 
 // One universe more, before place at.
-fn insert(rows: &mut [u16; 1024], n: usize, at: usize, universe: u16)
-    requires { ⌜ (n < 1024) × (at ≤ n) × (length (now rows) ≡ 1024) ⌝ }
-    ensures { λ r. ⌜ (length (now (rows .exit)) ≡ 1024) × (take (n + 1) (now (rows .exit)) ≡ insertAt at universe (take n (now (rows .entry)))) ⌝ }
+fn insert(rows: &mut ListenedUniverses, n: usize, at: usize, universe: u16)
+    requires { ⌜ (n < most-listened) × (at ≤ n) × (length (now rows) ≡ most-listened) ⌝ }
+    ensures { λ r. ⌜ (length (now (rows .exit)) ≡ most-listened) × (take (n + 1) (now (rows .exit)) ≡ insertAt at universe (take n (now (rows .entry)))) ⌝ }
 {
     let mut carried = universe;
     let mut i = at;
@@ -100,9 +106,9 @@ fn insert(rows: &mut [u16; 1024], n: usize, at: usize, universe: u16)
 }
 
 // The universe at place at taken out of the first n.
-fn remove(rows: &mut [u16; 1024], n: usize, at: usize)
-    requires { ⌜ (n ≤ 1024) × (at < n) × (length (now rows) ≡ 1024) ⌝ }
-    ensures { λ r. ⌜ (length (now (rows .exit)) ≡ 1024) × (take (n - 1) (now (rows .exit)) ≡ removeAt at (take n (now (rows .entry)))) ⌝ }
+fn remove(rows: &mut ListenedUniverses, n: usize, at: usize)
+    requires { ⌜ (n ≤ most-listened) × (at < n) × (length (now rows) ≡ most-listened) ⌝ }
+    ensures { λ r. ⌜ (length (now (rows .exit)) ≡ most-listened) × (take (n - 1) (now (rows .exit)) ≡ removeAt at (take n (now (rows .entry)))) ⌝ }
 {
     let last = n - 1;
     let mut to = at;
@@ -114,14 +120,14 @@ fn remove(rows: &mut [u16; 1024], n: usize, at: usize)
 }
 
 // A universe put in, unless it stands there; without room for it, nothing changes.
-fn join(rows: &mut [u16; 1024], n: usize, universe: u16) -> Joined
+fn join(rows: &mut ListenedUniverses, n: usize, universe: u16) -> Joined
     requires { ⌜ Kept (listened n) (now rows) ⌝ }
     ensures { λ r. ⌜ Joins universe n (now (rows .entry)) r (now (rows .exit)) ⌝ }
 {
     let Spot::Free(at) = find(&*rows, n, universe) else {
         return Joined::Count(n);
     };
-    if n < 1024 {
+    if n < LISTENED {
         insert(&mut *rows, n, at, universe);
         return Joined::Count(n + 1);
     }
@@ -129,7 +135,7 @@ fn join(rows: &mut [u16; 1024], n: usize, universe: u16) -> Joined
 }
 
 // Universes put in one by one, until one finds no room.
-fn join_all(rows: &mut [u16; 1024], n: usize, universes: &[u16]) -> Joined
+fn join_all(rows: &mut ListenedUniverses, n: usize, universes: &[u16]) -> Joined
     requires { ⌜ Kept (listened n) (now rows) ⌝ }
     ensures { λ r. ⌜ Stands r (joined-by (now (universes .entry)) (take n (now (rows .entry)))) (now (rows .exit)) ⌝ }
 {
@@ -164,15 +170,15 @@ fn first_illegal(universes: &[u16]) -> Illegal
 
 impl Listened {
     // A fresh receiver listens to the discovery universe alone.
-    pub fn new(rows: &mut [u16; 1024]) -> Listened
-        requires { ⌜ length (now rows) ≡ 1024 ⌝ }
+    pub fn new(rows: &mut ListenedUniverses) -> Listened
+        requires { ⌜ length (now rows) ≡ most-listened ⌝ }
         ensures { λ r. ⌜ Fresh r (now (rows .exit)) ⌝ }
     {
         rows[0] = E131_DISCOVERY_UNIVERSE;
         Listened { count: 1 }
     }
 
-    pub fn is_listening(self, rows: &[u16; 1024], universe: u16) -> bool
+    pub fn is_listening(self, rows: &ListenedUniverses, universe: u16) -> bool
         requires { ⌜ Kept self (now rows) ⌝ }
         ensures { λ r. ⌜ r ≡ listens universe (listenedOf self (now (rows .entry))) ⌝ }
     {
@@ -183,7 +189,7 @@ impl Listened {
     }
 
     // What a step does with a synchronisation address: `listen_universes` of one.
-    pub fn listen_universe(self, rows: &mut [u16; 1024], universe: u16) -> ListenDone
+    pub fn listen_universe(self, rows: &mut ListenedUniverses, universe: u16) -> ListenDone
         requires { ⌜ Kept self (now rows) ⌝ }
         ensures { λ r. ⌜ Listens (universe ∷ []) self (now (rows .entry)) r (now (rows .exit)) ⌝ }
     {
@@ -207,7 +213,7 @@ impl Listened {
     }
 
     // All are tested before any is added; they are put into a copy, which counts only if all find room.
-    pub fn listen_universes(self, rows: &mut [u16; 1024], universes: &[u16]) -> ListenDone
+    pub fn listen_universes(self, rows: &mut ListenedUniverses, universes: &[u16]) -> ListenDone
         requires { ⌜ Kept self (now rows) ⌝ }
         ensures { λ r. ⌜ Listens (now (universes .entry)) self (now (rows .entry)) r (now (rows .exit)) ⌝ }
     {
@@ -233,7 +239,7 @@ impl Listened {
     }
 
     // 2 for an illegal universe, then 3 for one that isn't listened to.
-    pub fn mute_universe(self, rows: &mut [u16; 1024], universe: u16) -> MuteDone
+    pub fn mute_universe(self, rows: &mut ListenedUniverses, universe: u16) -> MuteDone
         requires { ⌜ Kept self (now rows) ⌝ }
         ensures { λ r. ⌜ Mutes universe self (now (rows .entry)) r (now (rows .exit)) ⌝ }
     {

@@ -1,6 +1,6 @@
 -- What an answer of either merge says of its data, for callers.
 -- Assumes nothing.
-use mathlib.Core.Path.{_≡_, ap, _∙_}
+use mathlib.Core.Path.{_≡_, refl, ap, _∙_}
 use mathlib.Core.Option.{none, some}
 use mathlib.Core.List.{List, _++_}
 use Prim.Native.Nat.{ℕ, _≤_, max}
@@ -43,6 +43,10 @@ module _ (e p : Dmx) where
 pub newer-chosen : (c : Choice) (xs ys : List ℕ) → c ≡ Newer → chosen c xs ys ≡ ys
 unfolding chosen
 newer-chosen c xs ys e = ap (λ (x : Choice). chosen x xs ys) e
+
+-- "0 to 513 values each"
+pub values-513 : most-values ≡ 513
+values-513 = refl
 
 -- of lists within 513 values
 module _ (e p : Dmx) (x : length (e .values) ≤ most-values) (y : length (p .values) ≤ most-values) where

@@ -111,8 +111,8 @@ htpValuesOf (htp.OutputShort n) = number n ∷ []
 -- then 15 if the output lent for its values is shorter than the longer list": the number, and the length that 1 and 15 return
 unfoldable pub htp-told : ℕ → Dmx → Dmx → ℕ × List Value
 htp-told room e p =
-    cond (ltb 513 (length (e .values))) (1, number (length (e .values)) ∷ [])
-    (cond (ltb 513 (length (p .values))) (1, number (length (p .values)) ∷ [])
+    cond (ltb most-values (length (e .values))) (1, number (length (e .values)) ∷ [])
+    (cond (ltb most-values (length (p .values))) (1, number (length (p .values)) ∷ [])
     (cond (not (mergeable e p)) (8, [])
     (cond (ltb room (max (length (e .values)) (length (p .values)))) (15, number (max (length (e .values)) (length (p .values))) ∷ [])
     (0, []))))
@@ -147,6 +147,6 @@ choiceValuesOf (TooLong n) = number n ∷ []
 -- "Called directly, either merge gives 1 for a list over 513, the older tested first."
 unfoldable pub choice-told : Dmx → Dmx → ℕ × List Value
 choice-told e p =
-    cond (ltb 513 (length (e .values))) (1, number (length (e .values)) ∷ [])
-    (cond (ltb 513 (length (p .values))) (1, number (length (p .values)) ∷ [])
+    cond (ltb most-values (length (e .values))) (1, number (length (e .values)) ∷ [])
+    (cond (ltb most-values (length (p .values))) (1, number (length (p .values)) ∷ [])
     (0, []))

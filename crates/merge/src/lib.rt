@@ -47,7 +47,7 @@ pub enum Choice {
 }
 
 // A start code and 512 slots.
-pub const MOST_VALUES: usize = 513;
+pub const VALUES: usize = 513;
 
 // The values laid over the output from a place on; what stands around them is unchanged.
 pub fn copy_values(values: &[u8], out: &mut [u8], at: usize)
@@ -147,10 +147,10 @@ pub fn htp_dmx_merge(
 {
     let n = older_values.len();
     let m = newer_values.len();
-    if MOST_VALUES < n {
+    if VALUES < n {
         return HtpAnswer::TooLong(n);
     }
-    if MOST_VALUES < m {
+    if VALUES < m {
         return HtpAnswer::TooLong(m);
     }
     if is_mergeable(older, older_values, newer, newer_values) {
@@ -190,10 +190,10 @@ pub fn discard_lowest_priority_then_previous(
 {
     let n = older_values.len();
     let m = newer_values.len();
-    if MOST_VALUES < n {
+    if VALUES < n {
         return Choice::TooLong(n);
     }
-    if MOST_VALUES < m {
+    if VALUES < m {
         return Choice::TooLong(m);
     }
     if newer.priority < older.priority {

@@ -13,8 +13,8 @@ use Rattle.waiting.specs.declared.StoreCall.{StoreCall}
 use Rattle.waiting.specs.declared.StoreCall.the-variants.{Taken, TooLong}
 use Rattle.waiting.specs.declared.ReleaseAnswer.{ReleaseAnswer}
 use Rattle.waiting.specs.declared.ReleaseAnswer.the-variants.{Released, OutputShort}
-use Rattle.waiting.specs.Waiting.{universeOf, waitingFor, merged, stored, released, left, numberOf, valuesOf}
-use Rattle.waiting.specs.Records.{records, over}
+use Rattle.waiting.specs.Waiting.{universeOf, waitingFor, capacity, merged, stored, released, left, numberOf, valuesOf}
+use Rattle.waiting.specs.Records.{records, over, most-bytes}
 
 -- ── `store_waiting_data` ──
 -- "values over 513 | 1 | length | all"
@@ -39,18 +39,18 @@ join-told (some d) = (0, [])
 -- "64 waiting, universe not among them | 12 | nothing"
 unfoldable pub universe-told : MergeChoice → Dmx → List Dmx → Option Dmx → ℕ × List Value
 universe-told choice p ds (some e) = join-told (merged choice e p)
-universe-told choice p ds none = cond (leb 64 (length ds)) (12, []) (0, [])
+universe-told choice p ds none = cond (leb capacity (length ds)) (12, []) (0, [])
 
 -- "values over 513 | 1 | length", before all else
 unfoldable pub store-told : MergeChoice → Dmx → List Dmx → ℕ × List Value
 store-told choice p ds =
-    cond (ltb 513 (length (p .values))) (1, number (length (p .values)) ∷ [])
+    cond (ltb most-values (length (p .values))) (1, number (length (p .values)) ∷ [])
     (universe-told choice p ds (waitingFor (universeOf p) ds))
 
 -- ── `rtrv_waiting_data` ──
 -- what 64 records of 35 bytes and 513 values need
 abbrev pub release-length : ℕ
-release-length = 35072
+release-length = most-bytes
 
 -- "output too short | 15 | needed length | all"
 unfoldable pub release-call : ℕ → ℕ → ℕ → List Dmx → List Dmx × ReleaseAnswer
@@ -73,5 +73,5 @@ releaseValuesOf (OutputShort n) = number n ∷ []
 -- "output too short | 15 | needed length"; "A release answers its record count and byte length"
 unfoldable pub release-told : ℕ → ℕ → ℕ → List Dmx → ℕ × List Value
 release-told room now a ds =
-    cond (ltb room 35072) (15, number 35072 ∷ [])
+    cond (ltb room release-length) (15, number release-length ∷ [])
     (0, number (length (released now a ds)) ∷ number (length (records (released now a ds))) ∷ [])

@@ -25,8 +25,12 @@ use Rattle.merge.specs.Merge.{Dmx, htp-merge, mergeable, joined, preferred, mos
 use Rattle.merge.specs.Laws.{Like, htp-merge-like, joined-like, like-paired, joined-comm, joined-swap, joined-universe, joined-passes, joined-fits, preferred-cases}
 use Rattle.waiting.specs.declared.StoreAnswer.{StoreAnswer}
 use Rattle.waiting.specs.declared.StoreAnswer.the-variants.{Stored, MergeRefused, WaitingFull}
+use Rattle.waiting.specs.declared.StoreCall.{StoreCall}
+use Rattle.waiting.specs.declared.ReleaseAnswer.{ReleaseAnswer}
 use Rattle.waiting.specs.Waiting.{universeOf, addressOf, waitingFor, capacity, merged, joining, stored, cleared, fresh, swept, of-address, released, left, Within, Ordered}
 use Rattle.waiting.specs.Records.{owner, encode, records, over, most-bytes}
+use Rattle.waiting.specs.Answers.{store-call, storeNumberOf, storeValuesOf, universe-told, store-told}
+use Rattle.waiting.specs.Answers.{release-length, release-call, releaseNumberOf, releaseValuesOf, release-told}
 
 -- ── in order and within the counts ──
 pub within-keep : (t : Dmx → Bool) (ds : List Dmx) → Within ds → Within (keep t ds)
@@ -189,6 +193,21 @@ over-none out = refl
 
 pub records-fit : (ds : List Dmx) → Ordered ds → length (records ds) ≤ most-bytes
 records-fit ds o = records-within ds (o .fit) (o .values-fit)
+
+-- ── what an answer tells: its number and values are those of 'What stops a call' ──
+pub store-answer-told : (choice : MergeChoice) (p : Dmx) (ds : List Dmx) (c : StoreCall) → c ≡ store-call choice p ds .1
+    → (storeNumberOf c, storeValuesOf c) ≡ store-told choice p ds
+unfolding store-call store-told universe-told stored joining
+store-answer-told choice p ds c e =
+    split (ltb most-values (length (p .values))) (λ h. cc)
+    (λ h. found (waitingFor (universeOf p) ds)
+    (λ w. split (leb capacity (length ds)) (λ f. cc) (λ f. cc))
+    (λ d w. found (merged choice d p) (λ m. cc) (λ x m. cc)))
+
+pub release-answer-told : (room now a : ℕ) (ds : List Dmx) (r : ReleaseAnswer) → r ≡ release-call room now a ds .1
+    → (releaseNumberOf r, releaseValuesOf r) ≡ release-told room now a ds
+unfolding release-call release-told
+release-answer-told room now a ds r e = split (ltb room release-length) (λ h. cc) (λ h. cc)
 
 -- "in a step a release meets no expired data": after a sweep at its reading it drops none
 pub released-swept : (now a : ℕ) (ds : List Dmx) → released now a (swept now ds) ≡ keep (of-address a) (swept now ds)

@@ -2,9 +2,4 @@ pub mod Waiting
 pub mod Records
 pub mod Answers
 pub mod Laws
-pub mod Entries
-pub mod Posts
-pub mod Passes
-pub mod Joins
-pub mod Written
-pub mod Calls
+pub mod Limits

@@ -30,6 +30,10 @@ waitingFor u ds = find ltb universeOf u ds
 abbrev pub capacity : ℕ
 capacity = 64
 
+-- "A store with fewer bytes than its full table needs gives 15": 64 blocks of 513 bytes
+abbrev pub store-length : ℕ
+store-length = 32832
+
 -- old with new, by the merge choice; nothing where it is refused
 unfoldable pub merged : MergeChoice → Dmx → Dmx → Option Dmx
 merged DiscardLowestPriorityThenPrevious e p = some (preferred e p)

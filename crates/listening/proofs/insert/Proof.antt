@@ -4,6 +4,7 @@ use mathlib.Core.Path.{_≡_, _∙_}
 use mathlib.Core.List.{_++_, _∷_}
 use Prim.Native.Nat.{_≤_, _-_, _+_}
 use native.Mathlib.Omega.{arith}
+use Rattle.model.specs.Step.{most-listened}
 use lib.ListN.{length, take, drop, length-set}
 use lib.Seq.{take-take}
 use Rattle.table.specs.Place.{insertAt}
@@ -13,7 +14,7 @@ use Rattle.listening.proofs.insert.Statement.{statement}
 use Rattle.listening.proofs.insert.Tie as tie
 
 abbrev Inv-loop : tie.InvT-loop
-Inv-loop rows₀ n at universe carried₀ i₀ rows carried i = (i ≤ n) × (length rows ≡ 1024) × (take i rows ++ carried ∷ drop i (take n rows) ≡ insertAt at universe (take n rows₀))
+Inv-loop rows₀ n at universe carried₀ i₀ rows carried i = (i ≤ n) × (length rows ≡ most-listened) × (take i rows ++ carried ∷ drop i (take n rows) ≡ insertAt at universe (take n rows₀))
 
 abbrev μ-loop : tie.MeasureT-loop
 μ-loop rows₀ n at universe carried₀ i₀ rows carried i = n - i

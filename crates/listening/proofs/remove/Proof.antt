@@ -5,6 +5,7 @@ use mathlib.Core.List.{List, _++_, append-nil}
 use Prim.Native.Nat.{ℕ, _≤_, _-_, _+_}
 use native.Mathlib.Omega.{arith}
 use native.Mathlib.Numerals.{add-one}
+use Rattle.model.specs.Step.{most-listened}
 use lib.ListN.{length, take, drop, length-set}
 use lib.Seq.{take-take}
 use Rattle.table.specs.Place.{removeAt}
@@ -14,7 +15,7 @@ use Rattle.listening.proofs.remove.Statement.{statement}
 use Rattle.listening.proofs.remove.Tie as tie
 
 abbrev Inv-loop : tie.InvT-loop
-Inv-loop rows₀ n at last to₀ rows to = (to ≤ last) × (length rows ≡ 1024) × (take to rows ++ drop (to + 1) (take n rows) ≡ removeAt at (take n rows₀))
+Inv-loop rows₀ n at last to₀ rows to = (to ≤ last) × (length rows ≡ most-listened) × (take to rows ++ drop (to + 1) (take n rows) ≡ removeAt at (take n rows₀))
 
 abbrev μ-loop : tie.MeasureT-loop
 μ-loop rows₀ n at last to₀ rows to = last - to

@@ -1,0 +1,5 @@
+pub mod Entries
+pub mod Posts
+pub mod Lent
+pub mod Passes
+pub mod Written
