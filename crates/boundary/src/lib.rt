@@ -8,7 +8,7 @@ ghost use Rattle.space.specs.Space.{bytes};
 ghost use Rattle.packets.specs.View.{packetOf, syncOf};
 ghost use Rattle.packets.specs.View.{announcementOf};
 ghost use Rattle.boundary.specs.Boundary.{receiverOf, headerOf, mergeOf, limitOf, settingsOf, packetIn, syncIn, announcedIn, bareOf, oneOf, twoOf, pairOf, sequenceOf, discoveredOf, toldOf, replyOf, polledOf, sweptOf, heardOf, mutedOf, clearedOf};
-use discovery::Discovery;
+use discovery_calls::Discovery;
 use listening::Listened;
 use model::ClearAnswer;
 use model::ExpiryAnswer;
@@ -19,9 +19,9 @@ use model::StepAnswer;
 use packets::DataPacket;
 use packets::DiscoveryPacket;
 use packets::SyncPacket;
-use pairs::DataTable;
-use pairs::PairTable;
-use pairs::SyncTable;
+use pair_tables::DataTable;
+use pair_tables::PairTable;
+use pair_tables::SyncTable;
 use receiver::Receiver;
 use rules::Cid;
 use rules::DataSequence;
@@ -31,7 +31,7 @@ use settings::MergeChoice;
 use settings::Settings;
 use settings::SourceLimit;
 use taking::Handled;
-use waiting::Waiting;
+use waiting_calls::Waiting;
 
 // The counts and notes of every table.
 #[repr(C)]

@@ -37,25 +37,32 @@ use boundary::step_reply;
 use boundary::swept;
 use boundary::sync_of;
 use boundary::with_source_limit;
+use discovery_rows::HeadRows;
+use discovery_rows::NameRows;
+use discovery_rows::PageRows;
 use handlers::handle_data_packet;
 use handlers::handle_sync_packet;
 use handlers::handle_universe_discovery_packet;
+use listening::ListenedUniverses;
+use pair_rows::PairRows;
+use pair_rows::SourceRows;
 use receiver::Receiver;
+use waiting_store::EntryRows;
 
 // A step on a data packet.
 #[no_mangle]
 pub extern "C" fn tamburelvi_handle_data_packet(
     header: Header,
-    data_pairs: &mut [[u64; 4]; 1024],
-    data_sources: &mut [[u64; 2]; 1024],
-    sync_pairs: &mut [[u64; 4]; 1024],
-    sync_sources: &mut [[u64; 2]; 1024],
-    rows: &mut [[u64; 9]; 64],
+    data_pairs: &mut PairRows,
+    data_sources: &mut SourceRows,
+    sync_pairs: &mut PairRows,
+    sync_sources: &mut SourceRows,
+    rows: &mut EntryRows,
     store: &mut [u8],
-    heard: &mut [u16; 1024],
-    sources: &[[u64; 6]; 64],
-    names: &[[u8; 63]; 64],
-    pages: &mut [[u64; 5]; 64],
+    heard: &mut ListenedUniverses,
+    sources: &HeadRows,
+    names: &NameRows,
+    pages: &mut PageRows,
     universes: &mut [u16],
     choices: Choices,
     reading: u64,
@@ -98,16 +105,16 @@ pub extern "C" fn tamburelvi_handle_data_packet(
 #[no_mangle]
 pub extern "C" fn tamburelvi_handle_sync_packet(
     header: Header,
-    data_pairs: &mut [[u64; 4]; 1024],
-    data_sources: &mut [[u64; 2]; 1024],
-    sync_pairs: &mut [[u64; 4]; 1024],
-    sync_sources: &mut [[u64; 2]; 1024],
-    rows: &mut [[u64; 9]; 64],
+    data_pairs: &mut PairRows,
+    data_sources: &mut SourceRows,
+    sync_pairs: &mut PairRows,
+    sync_sources: &mut SourceRows,
+    rows: &mut EntryRows,
     store: &mut [u8],
-    heard: &[u16; 1024],
-    sources: &[[u64; 6]; 64],
-    names: &[[u8; 63]; 64],
-    pages: &[[u64; 5]; 64],
+    heard: &ListenedUniverses,
+    sources: &HeadRows,
+    names: &NameRows,
+    pages: &PageRows,
     universes: &[u16],
     choices: Choices,
     reading: u64,
@@ -148,16 +155,16 @@ pub extern "C" fn tamburelvi_handle_sync_packet(
 #[no_mangle]
 pub extern "C" fn tamburelvi_handle_universe_discovery_packet(
     header: Header,
-    data_pairs: &mut [[u64; 4]; 1024],
-    data_sources: &mut [[u64; 2]; 1024],
-    sync_pairs: &mut [[u64; 4]; 1024],
-    sync_sources: &mut [[u64; 2]; 1024],
-    rows: &mut [[u64; 9]; 64],
+    data_pairs: &mut PairRows,
+    data_sources: &mut SourceRows,
+    sync_pairs: &mut PairRows,
+    sync_sources: &mut SourceRows,
+    rows: &mut EntryRows,
     store: &mut [u8],
-    heard: &[u16; 1024],
-    sources: &mut [[u64; 6]; 64],
-    names: &mut [[u8; 63]; 64],
-    pages: &mut [[u64; 5]; 64],
+    heard: &ListenedUniverses,
+    sources: &mut HeadRows,
+    names: &mut NameRows,
+    pages: &mut PageRows,
     universes: &mut [u16],
     choices: Choices,
     reading: u64,
@@ -202,11 +209,11 @@ pub extern "C" fn tamburelvi_handle_universe_discovery_packet(
 #[no_mangle]
 pub extern "C" fn tamburelvi_poll(
     header: Header,
-    data_pairs: &mut [[u64; 4]; 1024],
-    data_sources: &mut [[u64; 2]; 1024],
-    sync_pairs: &mut [[u64; 4]; 1024],
-    sync_sources: &mut [[u64; 2]; 1024],
-    rows: &mut [[u64; 9]; 64],
+    data_pairs: &mut PairRows,
+    data_sources: &mut SourceRows,
+    sync_pairs: &mut PairRows,
+    sync_sources: &mut SourceRows,
+    rows: &mut EntryRows,
     store: &mut [u8],
     choices: Choices,
     reading: u64,
@@ -240,9 +247,9 @@ pub extern "C" fn tamburelvi_poll(
 #[no_mangle]
 pub extern "C" fn tamburelvi_remove_expired_sources(
     header: Header,
-    sources: &mut [[u64; 6]; 64],
-    names: &mut [[u8; 63]; 64],
-    pages: &mut [[u64; 5]; 64],
+    sources: &mut HeadRows,
+    names: &mut NameRows,
+    pages: &mut PageRows,
     universes: &mut [u16],
     reading: u64,
 ) -> Reply
@@ -264,7 +271,7 @@ pub extern "C" fn tamburelvi_remove_expired_sources(
 #[no_mangle]
 pub extern "C" fn tamburelvi_listen_universes(
     header: Header,
-    heard: &mut [u16; 1024],
+    heard: &mut ListenedUniverses,
     list: &[u16],
 ) -> Reply
     requires { ⌜ listening.Kept (receiverOf header .listened) (now heard) ⌝ }
@@ -285,7 +292,7 @@ pub extern "C" fn tamburelvi_listen_universes(
 #[no_mangle]
 pub extern "C" fn tamburelvi_mute_universe(
     header: Header,
-    heard: &mut [u16; 1024],
+    heard: &mut ListenedUniverses,
     universe: u16,
 ) -> Reply
     requires { ⌜ listening.Kept (receiverOf header .listened) (now heard) ⌝ }
@@ -306,7 +313,7 @@ pub extern "C" fn tamburelvi_mute_universe(
 #[no_mangle]
 pub extern "C" fn tamburelvi_clear_waiting_data(
     header: Header,
-    rows: &mut [[u64; 9]; 64],
+    rows: &mut EntryRows,
     store: &mut [u8],
     universe: u16,
 ) -> Reply
@@ -326,7 +333,7 @@ pub extern "C" fn tamburelvi_clear_waiting_data(
 
 // A fresh receiver; but for the listened universes the memory may hold anything.
 #[no_mangle]
-pub extern "C" fn tamburelvi_new(heard: &mut [u16; 1024]) -> Header
+pub extern "C" fn tamburelvi_new(heard: &mut ListenedUniverses) -> Header
     requires { ⌜ length (now heard) ≡ 1024 ⌝ }
     ensures { λ r. ⌜ ((m : Memory) → Begins (receiverOf r) (with-listened-rows (now (heard .exit)) m)) ⌝ }
 {
@@ -337,7 +344,7 @@ pub extern "C" fn tamburelvi_new(heard: &mut [u16; 1024]) -> Header
 #[no_mangle]
 pub extern "C" fn tamburelvi_is_listening(
     header: Header,
-    heard: &[u16; 1024],
+    heard: &ListenedUniverses,
     universe: u16,
 ) -> bool
     requires { ⌜ listening.Kept (receiverOf header .listened) (now heard) ⌝ }

@@ -3,13 +3,18 @@ ghost use mathlib.Core.Path.{_≡_};
 ghost use mathlib.Core.List.{List, []};
 ghost use Prim.Native.Nat.{ℕ, _≤_, _<_};
 ghost use lib.ListN.{length, take, drop, getD};
-ghost use Rattle.pairs.specs.View.{cidOf, pairOf, pairsOf, sourcesOf};
-ghost use Rattle.waiting.specs.Entries.{waitingOf, nothing};
-ghost use Rattle.readouts.specs.Reads.{page-of-row, SourceAt, PageAt, HeadRead};
+ghost use Rattle.pair_rows.specs.View.{cidOf, pairOf, pairsOf, sourcesOf};
+ghost use Rattle.waiting_store.specs.Entries.{waitingOf, nothing};
+ghost use Rattle.discovery_reads.specs.Reads.{page-of-row, SourceAt, PageAt, HeadRead};
 ghost use Rattle.listening.specs.View.{listenedOf};
 ghost use Rattle.boundary.specs.Boundary.{receiverOf};
 ghost use Rattle.reads.specs.Reads.{pairRead, cidRead, dmxRead, headRead, pageRead, no-source, no-page, longest};
 use boundary::Header;
+use discovery_rows::HeadRows;
+use discovery_rows::PageRows;
+use listening::ListenedUniverses;
+use pair_rows::PairRows;
+use pair_rows::SourceRows;
 use reads::CidRead;
 use reads::DmxRead;
 use reads::PageRead;
@@ -23,12 +28,13 @@ use reads::pair_at;
 use reads::source_at;
 use reads::waiting_at;
 use reads::waiting_values_at;
+use waiting_store::EntryRows;
 
 // A pair of the data table, by its place from 0.
 #[no_mangle]
 pub extern "C" fn tamburelvi_data_pair(
     header: Header,
-    data_pairs: &[[u64; 4]; 1024],
+    data_pairs: &PairRows,
     at: usize,
 ) -> PairRead
     requires { ⌜ length (now «data_pairs») ≡ 1024 ⌝ }
@@ -42,7 +48,7 @@ pub extern "C" fn tamburelvi_data_pair(
 #[no_mangle]
 pub extern "C" fn tamburelvi_sync_pair(
     header: Header,
-    sync_pairs: &[[u64; 4]; 1024],
+    sync_pairs: &PairRows,
     at: usize,
 ) -> PairRead
     requires { ⌜ length (now «sync_pairs») ≡ 1024 ⌝ }
@@ -55,7 +61,7 @@ pub extern "C" fn tamburelvi_sync_pair(
 #[no_mangle]
 pub extern "C" fn tamburelvi_data_source(
     header: Header,
-    data_sources: &[[u64; 2]; 1024],
+    data_sources: &SourceRows,
     at: usize,
 ) -> CidRead
     requires { ⌜ length (now «data_sources») ≡ 1024 ⌝ }
@@ -69,7 +75,7 @@ pub extern "C" fn tamburelvi_data_source(
 #[no_mangle]
 pub extern "C" fn tamburelvi_sync_source(
     header: Header,
-    sync_sources: &[[u64; 2]; 1024],
+    sync_sources: &SourceRows,
     at: usize,
 ) -> CidRead
     requires { ⌜ length (now «sync_sources») ≡ 1024 ⌝ }
@@ -81,7 +87,7 @@ pub extern "C" fn tamburelvi_sync_source(
 
 // A listened universe, ascending.
 #[no_mangle]
-pub extern "C" fn tamburelvi_listened(header: Header, heard: &[u16; 1024], at: usize) -> u16
+pub extern "C" fn tamburelvi_listened(header: Header, heard: &ListenedUniverses, at: usize) -> u16
     requires { ⌜ length (now heard) ≡ 1024 ⌝ }
     ensures { λ r. ⌜ r ≡ getD (listenedOf (receiverOf header .listened) (now (heard .entry))) at 0 ⌝ }
 {
@@ -90,7 +96,7 @@ pub extern "C" fn tamburelvi_listened(header: Header, heard: &[u16; 1024], at: u
 
 // What waits for a universe, ascending, but for its values.
 #[no_mangle]
-pub extern "C" fn tamburelvi_waiting(header: Header, rows: &[[u64; 9]; 64], at: usize) -> DmxRead
+pub extern "C" fn tamburelvi_waiting(header: Header, rows: &EntryRows, at: usize) -> DmxRead
     requires { ⌜ length (now rows) ≡ 64 ⌝ }
     ensures { λ r. ⌜ ((store : List ℕ) →
         dmxRead r ≡ getD (waitingOf (receiverOf header .waiting .count) (now (rows .entry)) store) at nothing .head) ⌝ }
@@ -102,7 +108,7 @@ pub extern "C" fn tamburelvi_waiting(header: Header, rows: &[[u64; 9]; 64], at: 
 #[no_mangle]
 pub extern "C" fn tamburelvi_waiting_values(
     header: Header,
-    rows: &[[u64; 9]; 64],
+    rows: &EntryRows,
     at: usize,
 ) -> PartRead
     requires { ⌜ length (now rows) ≡ 64 ⌝ }
@@ -117,7 +123,7 @@ pub extern "C" fn tamburelvi_waiting_values(
 #[no_mangle]
 pub extern "C" fn tamburelvi_source_at(
     header: Header,
-    sources: &[[u64; 6]; 64],
+    sources: &HeadRows,
     mark: u64,
     at: usize,
 ) -> SourceRead
@@ -135,7 +141,7 @@ pub extern "C" fn tamburelvi_source_at(
 #[no_mangle]
 pub extern "C" fn tamburelvi_page_at(
     header: Header,
-    pages: &[[u64; 5]; 64],
+    pages: &PageRows,
     mark: u64,
     hi: u64,
     lo: u64,

@@ -9,8 +9,8 @@ use Rattle.table.specs.Cases.{missing}
 use Rattle.rules.specs.Answer.{first-of}
 use Rattle.settings.specs.declared.Settings.{Settings}
 use Rattle.waiting.specs.Laws.{over-none}
-use Rattle.waiting.specs.Entries.{lent-then}
-use Rattle.discovery.specs.Lent as pool
+use Rattle.waiting_store.specs.Entries.{lent-then}
+use Rattle.discovery_rows.specs.Lent as pool
 use Rattle.model.specs.declared.StepAnswer.{StepAnswer}
 use Rattle.model.specs.Packet.{Packet, too-long}
 use Rattle.model.specs.Step.{too-short}

@@ -8,8 +8,8 @@ use Rattle.rules.specs.Answer.{first-of}
 use Rattle.settings.specs.declared.Settings.{Settings}
 use Rattle.merge.specs.Merge.{Dmx}
 use Rattle.waiting.specs.Records.{records, over}
-use Rattle.waiting.specs.Entries as waiting
-use Rattle.discovery.specs.Lent as pool
+use Rattle.waiting_store.specs.Entries as waiting
+use Rattle.discovery_rows.specs.Lent as pool
 use Rattle.model.specs.declared.StepAnswer.{StepAnswer}
 use Rattle.model.specs.Packet.{Packet, too-long}
 use Rattle.model.specs.Step.{too-short, step}

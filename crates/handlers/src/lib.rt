@@ -5,9 +5,15 @@ ghost use Rattle.receiver.specs.View.{Kept};
 ghost use Rattle.receiver.specs.Lent.{lent-in, lent};
 ghost use Rattle.packets.specs.View.{announcementOf};
 ghost use Rattle.handlers.specs.View.{Steps};
+use discovery_rows::HeadRows;
+use discovery_rows::NameRows;
+use discovery_rows::PageRows;
+use listening::ListenedUniverses;
 use packets::DataPacket;
 use packets::DiscoveryPacket;
 use packets::SyncPacket;
+use pair_rows::PairRows;
+use pair_rows::SourceRows;
 use receiver::Receiver;
 use settings::Settings;
 use space::Measured;
@@ -18,20 +24,21 @@ use taking::open;
 use taking::take_data;
 use taking::take_discovery;
 use taking::take_sync;
+use waiting_store::EntryRows;
 
 // A step on a data packet.
 pub fn handle_data_packet(
     receiver: Receiver,
-    data_pairs: &mut [[u64; 4]; 1024],
-    data_sources: &mut [[u64; 2]; 1024],
-    sync_pairs: &mut [[u64; 4]; 1024],
-    sync_sources: &mut [[u64; 2]; 1024],
-    rows: &mut [[u64; 9]; 64],
+    data_pairs: &mut PairRows,
+    data_sources: &mut SourceRows,
+    sync_pairs: &mut PairRows,
+    sync_sources: &mut SourceRows,
+    rows: &mut EntryRows,
     store: &mut [u8],
-    heard: &mut [u16; 1024],
-    sources: &[[u64; 6]; 64],
-    names: &[[u8; 63]; 64],
-    pages: &mut [[u64; 5]; 64],
+    heard: &mut ListenedUniverses,
+    sources: &HeadRows,
+    names: &NameRows,
+    pages: &mut PageRows,
     universes: &mut [u16],
     settings: Settings,
     reading: u64,
@@ -93,16 +100,16 @@ pub fn handle_data_packet(
 // A step on a synchronisation packet.
 pub fn handle_sync_packet(
     receiver: Receiver,
-    data_pairs: &mut [[u64; 4]; 1024],
-    data_sources: &mut [[u64; 2]; 1024],
-    sync_pairs: &mut [[u64; 4]; 1024],
-    sync_sources: &mut [[u64; 2]; 1024],
-    rows: &mut [[u64; 9]; 64],
+    data_pairs: &mut PairRows,
+    data_sources: &mut SourceRows,
+    sync_pairs: &mut PairRows,
+    sync_sources: &mut SourceRows,
+    rows: &mut EntryRows,
     store: &mut [u8],
-    heard: &[u16; 1024],
-    sources: &[[u64; 6]; 64],
-    names: &[[u8; 63]; 64],
-    pages: &[[u64; 5]; 64],
+    heard: &ListenedUniverses,
+    sources: &HeadRows,
+    names: &NameRows,
+    pages: &PageRows,
     universes: &[u16],
     settings: Settings,
     reading: u64,
@@ -156,16 +163,16 @@ pub fn handle_sync_packet(
 // A step on a discovery packet.
 pub fn handle_universe_discovery_packet(
     receiver: Receiver,
-    data_pairs: &mut [[u64; 4]; 1024],
-    data_sources: &mut [[u64; 2]; 1024],
-    sync_pairs: &mut [[u64; 4]; 1024],
-    sync_sources: &mut [[u64; 2]; 1024],
-    rows: &mut [[u64; 9]; 64],
+    data_pairs: &mut PairRows,
+    data_sources: &mut SourceRows,
+    sync_pairs: &mut PairRows,
+    sync_sources: &mut SourceRows,
+    rows: &mut EntryRows,
     store: &mut [u8],
-    heard: &[u16; 1024],
-    sources: &mut [[u64; 6]; 64],
-    names: &mut [[u8; 63]; 64],
-    pages: &mut [[u64; 5]; 64],
+    heard: &ListenedUniverses,
+    sources: &mut HeadRows,
+    names: &mut NameRows,
+    pages: &mut PageRows,
     universes: &mut [u16],
     settings: Settings,
     reading: u64,

@@ -13,19 +13,19 @@ use Rattle.table.specs.Cases.{split}
 use Rattle.table.specs.Place.{getD-map}
 use Rattle.rules.specs.declared.Cid.{Cid}
 use Rattle.pairs.specs.declared.Pair.{Pair}
-use Rattle.pairs.specs.View.{cidOf, pairOf}
+use Rattle.pair_rows.specs.View.{cidOf, pairOf}
 use Rattle.merge.specs.declared.DmxData.{DmxData}
 use Rattle.merge.specs.declared.SourceCid.{SourceCid}
 use Rattle.merge.specs.declared.SourceCid.the-variants.{Merged, Of}
 use Rattle.merge.specs.Merge.{Dmx}
-use Rattle.waiting.specs.Entries.{waitingOf, entries, entryOf, nothing, countOf, length-entries}
-use Rattle.waiting.specs.Entries as held
+use Rattle.waiting_store.specs.Entries.{waitingOf, entries, entryOf, nothing, countOf, length-entries}
+use Rattle.waiting_store.specs.Entries as held
 use Rattle.discovery.specs.Discovery.{Page}
-use Rattle.discovery.specs.Rows.{total}
-use Rattle.readouts.specs.declared.SourceHead.{SourceHead}
-use Rattle.readouts.specs.declared.PageHead.{PageHead}
-use Rattle.readouts.specs.Reads.{page-of-row}
-use Rattle.readouts.specs.Reads as out
+use Rattle.discovery_rows.specs.Rows.{total}
+use Rattle.discovery_reads.specs.declared.SourceHead.{SourceHead}
+use Rattle.discovery_reads.specs.declared.PageHead.{PageHead}
+use Rattle.discovery_reads.specs.Reads.{page-of-row}
+use Rattle.discovery_reads.specs.Reads as out
 use Rattle.reads.specs.declared.SourceRead.{SourceRead}
 use Rattle.reads.specs.declared.PageRead.{PageRead}
 use Rattle.reads.specs.declared.PairRead.{PairRead}

@@ -3,25 +3,31 @@ ghost use mathlib.Core.Path.{_≡_};
 ghost use mathlib.Core.List.{List, []};
 ghost use Prim.Native.Nat.{ℕ, _≤_, _<_};
 ghost use lib.ListN.{length, take, drop, getD};
-ghost use Rattle.pairs.specs.View.{cidOf, pairOf, pairsOf, sourcesOf};
-ghost use Rattle.waiting.specs.Entries.{waitingOf, nothing};
-ghost use Rattle.readouts.specs.Reads.{page-of-row, SourceAt, PageAt, HeadRead};
+ghost use Rattle.pair_rows.specs.View.{cidOf, pairOf, pairsOf, sourcesOf};
+ghost use Rattle.waiting_store.specs.Entries.{waitingOf, nothing};
+ghost use Rattle.discovery_reads.specs.Reads.{page-of-row, SourceAt, PageAt, HeadRead};
 ghost use Rattle.listening.specs.View.{listenedOf};
 ghost use Rattle.boundary.specs.Boundary.{receiverOf};
 ghost use Rattle.reads.specs.Reads.{pairRead, cidRead, dmxRead, headRead, pageRead, no-source, no-page, longest};
 use boundary::Header;
-use discovery::Discovery;
+use discovery_calls::Discovery;
+use discovery_reads::page_head;
+use discovery_reads::page_start;
+use discovery_reads::place_of_page;
+use discovery_reads::source_head;
+use discovery_reads::source_place;
+use discovery_reads::within;
+use discovery_rows::HeadRows;
+use discovery_rows::PageRows;
+use listening::ListenedUniverses;
 use merge::DmxData;
 use merge::SourceCid;
-use readouts::page_head;
-use readouts::page_start;
-use readouts::place_of_page;
-use readouts::source_head;
-use readouts::source_place;
-use readouts::within;
+use pair_rows::PairRows;
+use pair_rows::SourceRows;
 use rules::Cid;
-use waiting::Waiting;
-use waiting::count_of;
+use waiting_calls::Waiting;
+use waiting_store::EntryRows;
+use waiting_store::count_of;
 
 // A pair with its sequence number and its reading.
 #[repr(C)]
@@ -91,7 +97,7 @@ fn read_pair(row: [u64; 4]) -> PairRead
     }
 }
 
-pub fn pair_at(pairs: &[[u64; 4]; 1024], count: usize, at: usize) -> PairRead
+pub fn pair_at(pairs: &PairRows, count: usize, at: usize) -> PairRead
     requires { ⌜ length (now pairs) ≡ 1024 ⌝ }
     ensures { λ r. ⌜ pairRead r ≡ getD (pairsOf count (now (pairs .entry))) at (pairOf []) ⌝ }
 {
@@ -114,7 +120,7 @@ fn read_cid(row: [u64; 2]) -> CidRead
     }
 }
 
-pub fn cid_at(sources: &[[u64; 2]; 1024], count: usize, at: usize) -> CidRead
+pub fn cid_at(sources: &SourceRows, count: usize, at: usize) -> CidRead
     requires { ⌜ length (now sources) ≡ 1024 ⌝ }
     ensures { λ r. ⌜ cidRead r ≡ getD (sourcesOf count (now (sources .entry))) at (cidOf []) ⌝ }
 {
@@ -129,7 +135,7 @@ pub fn cid_at(sources: &[[u64; 2]; 1024], count: usize, at: usize) -> CidRead
 }
 
 // A listened universe, ascending.
-pub fn listened_at(header: Header, heard: &[u16; 1024], at: usize) -> u16
+pub fn listened_at(header: Header, heard: &ListenedUniverses, at: usize) -> u16
     requires { ⌜ length (now heard) ≡ 1024 ⌝ }
     ensures { λ r. ⌜ r ≡ getD (listenedOf (receiverOf header .listened) (now (heard .entry))) at 0 ⌝ }
 {
@@ -171,7 +177,7 @@ fn read_dmx(d: DmxData) -> DmxRead
 }
 
 // What waits for a universe, ascending, but for its values.
-pub fn waiting_at(header: Header, rows: &[[u64; 9]; 64], at: usize) -> DmxRead
+pub fn waiting_at(header: Header, rows: &EntryRows, at: usize) -> DmxRead
     requires { ⌜ length (now rows) ≡ 64 ⌝ }
     ensures { λ r. ⌜ ((store : List ℕ) →
         dmxRead r ≡ getD (waitingOf (receiverOf header .waiting .count) (now (rows .entry)) store) at nothing .head) ⌝ }
@@ -183,7 +189,7 @@ pub fn waiting_at(header: Header, rows: &[[u64; 9]; 64], at: usize) -> DmxRead
 }
 
 // Where its values lie in the store.
-pub fn waiting_values_at(header: Header, rows: &[[u64; 9]; 64], at: usize) -> PartRead
+pub fn waiting_values_at(header: Header, rows: &EntryRows, at: usize) -> PartRead
     requires { ⌜ length (now rows) ≡ 64 ⌝ }
     ensures { λ r. ⌜ ((store : List ℕ) →
         take (r .count) (drop (r .start) store)
@@ -205,7 +211,7 @@ pub fn waiting_values_at(header: Header, rows: &[[u64; 9]; 64], at: usize) -> Pa
 const LONGEST: usize = 9223372036854775807;
 
 // The source of this mark (0 partial, 1 listed), by its place in its list; where there are not so many, the place is the number of sources, and the rest is zeros.
-pub fn source_at(header: Header, sources: &[[u64; 6]; 64], mark: u64, at: usize) -> SourceRead
+pub fn source_at(header: Header, sources: &HeadRows, mark: u64, at: usize) -> SourceRead
     requires { ⌜ length (now sources) ≡ 64 ⌝ }
     ensures placed { λ r. ⌜ ((names pages : List (List ℕ)) (universes : List ℕ) →
         SourceAt mark at (r .place) (receiverOf header .discovery) (now (sources .entry)) names pages universes) ⌝ }
@@ -244,7 +250,7 @@ pub fn source_at(header: Header, sources: &[[u64; 6]; 64], mark: u64, at: usize)
 // The page of this source, by its place among the source's pages; where there are not so many, the place is the number of pages, and the rest is zeros.
 pub fn page_at(
     header: Header,
-    pages: &[[u64; 5]; 64],
+    pages: &PageRows,
     mark: u64,
     hi: u64,
     lo: u64,

@@ -13,26 +13,26 @@ use Rattle.rules.specs.declared.Cid.{Cid}
 use Rattle.rules.specs.Age.{data-loss}
 use Rattle.rules.specs.Universe.{legal}
 use Rattle.settings.specs.declared.Settings.{Settings}
-use Rattle.pairs.specs.View.{Rows}
+use Rattle.pair_rows.specs.View.{Rows}
 use Rattle.pairs.specs.Table.{Key, key}
 use Rattle.pairs.specs.declared.SweepAnswer.{SweepAnswer}
 use Rattle.pairs.specs.declared.SweepAnswer.the-variants.{Quiet, TimedOut}
 use Rattle.sequences.specs.declared.SequenceNumbering.{SequenceNumbering}
 use Rattle.sequences.specs.View as sequences
 use Rattle.sequences.specs.Laws.{answer-some, answer-none}
-use Rattle.waiting.specs.declared.Waiting.{Waiting}
+use Rattle.waiting_calls.specs.declared.Waiting.{Waiting}
 use Rattle.waiting.specs.Waiting.{cleared}
-use Rattle.waiting.specs.Entries.{waitingOf, lent-none}
-use Rattle.waiting.specs.Calls.{Yields, Empty}
+use Rattle.waiting_store.specs.Entries.{waitingOf, lent-none}
+use Rattle.waiting_calls.specs.Calls.{Yields, Empty}
 use Rattle.listening.specs.declared.Listened.{Listened}
 use Rattle.listening.specs.declared.ListenDone.{ListenDone}
 use Rattle.listening.specs.declared.MuteDone.{MuteDone}
 use Rattle.listening.specs.View.{listenedOf, Listens, Mutes, Fresh}
 use Rattle.listening.specs.View as listening
-use Rattle.discovery.specs.declared.Discovery.{Discovery}
+use Rattle.discovery_calls.specs.declared.Discovery.{Discovery}
 use Rattle.discovery.specs.Discovery.{swept}
-use Rattle.discovery.specs.View.{Holds, Emptied}
-use Rattle.discovery.specs.Lent as pool
+use Rattle.discovery_calls.specs.View.{Holds, Emptied}
+use Rattle.discovery_rows.specs.Lent as pool
 use Rattle.space.specs.Space.{bytes}
 use Rattle.model.specs.declared.PollAnswer.the-variants as polling
 use Rattle.model.specs.declared.ExpiryAnswer.the-variants as expiry

@@ -6,19 +6,20 @@ use mathlib.Core.List.{List}
 use Prim.Native.Nat.{ℕ, _≤_}
 use lib.Dec.{eqb}
 use lib.ListN.{length}
-use Rattle.pairs.specs.View.{Rows}
+use Rattle.pair_rows.specs.View.{Rows}
 use Rattle.sequences.specs.View as sequences
-use Rattle.waiting.specs.Entries.{waitingOf, store-length}
-use Rattle.waiting.specs.Entries as waiting
+use Rattle.waiting.specs.Waiting.{store-length}
+use Rattle.waiting_store.specs.Entries.{waitingOf}
+use Rattle.waiting_store.specs.Entries as waiting
 use Rattle.listening.specs.View.{listenedOf}
 use Rattle.listening.specs.View as listening
-use Rattle.discovery.specs.View.{discoveredOf}
-use Rattle.discovery.specs.View as discovery
-use Rattle.discovery.specs.Lent as pool
+use Rattle.discovery_calls.specs.View.{discoveredOf}
+use Rattle.discovery_calls.specs.View as discovery
+use Rattle.discovery_rows.specs.Lent as pool
 use Rattle.space.specs.Space.{spaceOf}
 use Rattle.model.specs.State.{State, fresh}
 use Rattle.model.specs.Step.{Space}
-use Rattle.discovery.specs.declared.Discovery.{Discovery}
+use Rattle.discovery_calls.specs.declared.Discovery.{Discovery}
 use Rattle.receiver.specs.declared.Receiver.{Receiver}
 
 -- ── the view ──

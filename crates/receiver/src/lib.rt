@@ -10,13 +10,19 @@ ghost use Rattle.space.specs.Space.{bytes};
 ghost use Rattle.table.specs.Lent.{untouched};
 ghost use Rattle.receiver.specs.View.{Memory, with-listened-rows, stateOf, KeptWaiting, KeptDiscovery, Kept, Begins, Does, Becomes};
 ghost use Rattle.receiver.specs.Lent.{sequences-in, sequences-lent, waiting-lent, listened-lent, discovery-lent};
-use discovery::Discovery;
+use discovery_calls::Discovery;
+use discovery_rows::HeadRows;
+use discovery_rows::NameRows;
+use discovery_rows::PageRows;
 use listening::Listened;
+use listening::ListenedUniverses;
 use model::ClearAnswer;
 use model::ExpiryAnswer;
 use model::ListenAnswer;
 use model::MuteAnswer;
 use model::PollAnswer;
+use pair_rows::PairRows;
+use pair_rows::SourceRows;
 use pairs::SweepAnswer;
 use rules::E131_NETWORK_DATA_LOSS_TIMEOUT;
 use sequences::SequenceNumbering;
@@ -25,7 +31,8 @@ use space::Measured;
 use space::test_page_store;
 use space::test_waiting_store;
 use steps::poll;
-use waiting::Waiting;
+use waiting_calls::Waiting;
+use waiting_store::EntryRows;
 
 // The counts of every table; the tables themselves lie in the lent memory.
 pub struct Receiver {
@@ -63,7 +70,7 @@ pub struct AfterClear {
 
 impl Receiver {
     // A fresh receiver; but for the listened universes the memory lent later may hold anything.
-    pub fn new(heard: &mut [u16; 1024]) -> Receiver
+    pub fn new(heard: &mut ListenedUniverses) -> Receiver
         requires { ⌜ length (now heard) ≡ 1024 ⌝ }
         ensures { λ r. ⌜ ((m : Memory) → Begins r (with-listened-rows (now (heard .exit)) m)) ⌝ }
     {
@@ -82,11 +89,11 @@ impl Receiver {
     // The sweeps that a step begins with.
     pub fn poll(
         self,
-        data_pairs: &mut [[u64; 4]; 1024],
-        data_sources: &mut [[u64; 2]; 1024],
-        sync_pairs: &mut [[u64; 4]; 1024],
-        sync_sources: &mut [[u64; 2]; 1024],
-        rows: &mut [[u64; 9]; 64],
+        data_pairs: &mut PairRows,
+        data_sources: &mut SourceRows,
+        sync_pairs: &mut PairRows,
+        sync_sources: &mut SourceRows,
+        rows: &mut EntryRows,
         store: &mut [u8],
         settings: Settings,
         reading: u64,
@@ -143,9 +150,9 @@ impl Receiver {
     // The discovery sweep: sources of age 2,500 or more go, partial and listed.
     pub fn remove_expired_sources(
         self,
-        sources: &mut [[u64; 6]; 64],
-        names: &mut [[u8; 63]; 64],
-        pages: &mut [[u64; 5]; 64],
+        sources: &mut HeadRows,
+        names: &mut NameRows,
+        pages: &mut PageRows,
         universes: &mut [u16],
         reading: u64,
     ) -> AfterExpiry
@@ -184,7 +191,7 @@ impl Receiver {
         }
     }
 
-    pub fn is_listening(self, heard: &[u16; 1024], universe: u16) -> bool
+    pub fn is_listening(self, heard: &ListenedUniverses, universe: u16) -> bool
         requires { ⌜ listening.Kept (self .listened) (now heard) ⌝ }
         ensures { λ r. ⌜ ((m : Memory) → r ≡ listens universe (stateOf self (with-listened-rows (now (heard .entry)) m) .listened)) ⌝ }
     {
@@ -193,7 +200,7 @@ impl Receiver {
     }
 
     // All are tested for 2 before any is added, then for 11.
-    pub fn listen_universes(self, heard: &mut [u16; 1024], universes: &[u16]) -> AfterListen
+    pub fn listen_universes(self, heard: &mut ListenedUniverses, universes: &[u16]) -> AfterListen
         requires { ⌜ listening.Kept (self .listened) (now heard) ⌝ }
         ensures { λ r. ⌜ ((rest : Memory) →
             let m = listened-lent heard (untouched rest) in
@@ -216,7 +223,7 @@ impl Receiver {
     }
 
     // 2, then 3.
-    pub fn mute_universe(self, heard: &mut [u16; 1024], universe: u16) -> AfterMute
+    pub fn mute_universe(self, heard: &mut ListenedUniverses, universe: u16) -> AfterMute
         requires { ⌜ listening.Kept (self .listened) (now heard) ⌝ }
         ensures { λ r. ⌜ ((rest : Memory) →
             let m = listened-lent heard (untouched rest) in
@@ -241,7 +248,7 @@ impl Receiver {
     // Answers whether the universe had waiting data.
     pub fn clear_waiting_data(
         self,
-        rows: &mut [[u64; 9]; 64],
+        rows: &mut EntryRows,
         store: &mut [u8],
         universe: u16,
     ) -> AfterClear

@@ -8,17 +8,17 @@ use lib.ListN.{length, take, drop, getD, length-take}
 use lib.Seq.{drop-append-le}
 use Rattle.table.specs.Place.{append-map}
 use Rattle.rules.specs.declared.Cid.{Cid}
-use Rattle.discovery.specs.declared.Discovery.{Discovery}
+use Rattle.discovery_calls.specs.declared.Discovery.{Discovery}
 use Rattle.discovery.specs.Discovery.{Page, Source}
-use Rattle.discovery.specs.Rows.{Packing}
-use Rattle.readouts.specs.Reads.{page-of-row, source-of-row, pages-of, sources-of, PageAt, SourceAt, HeadRead}
-use Rattle.readouts.specs.declared.SourceHead.{SourceHead}
-use Rattle.discovery.specs.Store.{viewOf}
-use Rattle.discovery.specs.View.{discoveredOf}
+use Rattle.discovery_rows.specs.Rows.{Packing}
+use Rattle.discovery_reads.specs.Reads.{page-of-row, source-of-row, pages-of, sources-of, PageAt, SourceAt, HeadRead}
+use Rattle.discovery_reads.specs.declared.SourceHead.{SourceHead}
+use Rattle.discovery_rows.specs.Store.{viewOf}
+use Rattle.discovery_calls.specs.View.{discoveredOf}
 use Rattle.merge.specs.declared.DmxData.{DmxData}
 use Rattle.merge.specs.Merge.{Dmx}
 use Rattle.merge.specs.Views.{dmx}
-use Rattle.waiting.specs.Entries.{entries, waitingOf, length-entries}
+use Rattle.waiting_store.specs.Entries.{entries, waitingOf, length-entries}
 use Rattle.replay.specs.Text.{cidText, Tells}
 use Rattle.replay.specs.TextLaws.{tells-then, tells-as, take-more}
 use Rattle.replay.specs.Dump.{lines, cidsTail, cidsText, pageLine, headLine, sourceText}

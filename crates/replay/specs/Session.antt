@@ -9,7 +9,7 @@ use Rattle.rules.specs.Answer.{Value}
 use Rattle.settings.specs.declared.Settings.{Settings}
 use Rattle.settings.specs.Settings as setting
 use Rattle.waiting.specs.Records.{records, over}
-use Rattle.waiting.specs.Entries.{store-length}
+use Rattle.waiting.specs.Waiting.{store-length}
 use Rattle.space.specs.Space.{bytes}
 use Rattle.packets.specs.View.{packetOf, syncOf}
 use Rattle.model.specs.Packet.{Packet, data-packet, sync-packet, discovery-packet}

@@ -3,11 +3,11 @@ ghost use mathlib.Core.Path.{_≡_};
 ghost use mathlib.Core.List.{[]};
 ghost use Prim.Native.Nat.{_≤_};
 ghost use lib.ListN.{length, take};
-ghost use Rattle.waiting.specs.Entries.{store-length};
-ghost use Rattle.waiting.specs.Entries as held;
+ghost use Rattle.waiting.specs.Waiting.{store-length};
+ghost use Rattle.waiting_store.specs.Entries as held;
 ghost use Rattle.listening.specs.View as hearing;
 ghost use Rattle.sequences.specs.View as numbered;
-ghost use Rattle.discovery.specs.View as found;
+ghost use Rattle.discovery_calls.specs.View as found;
 ghost use Rattle.space.specs.Space.{bytes};
 ghost use Rattle.packets.specs.View.{packetOf, syncOf};
 ghost use Rattle.model.specs.Packet.{data-packet, sync-packet, discovery-packet};
@@ -32,11 +32,18 @@ use crate::dump::front_numbers;
 use crate::parse::DataLine;
 use crate::parse::PageLine;
 use crate::parse::SyncLine;
+use discovery_rows::HeadRows;
+use discovery_rows::NameRows;
+use discovery_rows::PageRows;
 use handlers::handle_data_packet;
 use handlers::handle_sync_packet;
 use handlers::handle_universe_discovery_packet;
+use listening::ListenedUniverses;
+use pair_rows::PairRows;
+use pair_rows::SourceRows;
 use receiver::Receiver;
 use settings::Settings;
+use waiting_store::EntryRows;
 
 // What one command leaves for the next: the receiver, its settings, and how much is still to be written out.
 pub struct Session {
@@ -45,7 +52,7 @@ pub struct Session {
     pub at: usize,
 }
 
-pub fn begin(session: Session, heard: &mut [u16; 1024], out: &mut [u8]) -> Session
+pub fn begin(session: Session, heard: &mut ListenedUniverses, out: &mut [u8]) -> Session
     requires { ⌜ (length (now heard) ≡ 1024) × Ready (session .at) (now out) ⌝ }
     ensures { λ r. ⌜ ((m : Memory) → Carries session m (now (out .entry)) begun r (with-listened-rows (now (heard .exit)) m)
         (now (out .exit))) ⌝ }
@@ -95,7 +102,7 @@ pub fn set_limit(session: Session, limit: u16, out: &mut [u8]) -> Session
 
 pub fn listen(
     session: Session,
-    heard: &mut [u16; 1024],
+    heard: &mut ListenedUniverses,
     list: &[u16],
     n: usize,
     out: &mut [u8],
@@ -119,7 +126,7 @@ pub fn listen(
     }
 }
 
-pub fn mute(session: Session, heard: &mut [u16; 1024], universe: u16, out: &mut [u8]) -> Session
+pub fn mute(session: Session, heard: &mut ListenedUniverses, universe: u16, out: &mut [u8]) -> Session
     requires { ⌜ hearing.Kept (session .receiver .listened) (now heard) × Ready (session .at) (now out) ⌝ }
     ensures { λ r. ⌜ ((m : Memory) → Carries session (with-listened-rows (now (heard .entry)) m) (now (out .entry))
         (called (mute-call universe) muteNumber muteValues (session .settings)
@@ -139,7 +146,7 @@ pub fn mute(session: Session, heard: &mut [u16; 1024], universe: u16, out: &mut 
     }
 }
 
-pub fn ask(session: Session, heard: &[u16; 1024], universe: u16, out: &mut [u8]) -> Session
+pub fn ask(session: Session, heard: &ListenedUniverses, universe: u16, out: &mut [u8]) -> Session
     requires { ⌜ hearing.Kept (session .receiver .listened) (now heard) × Ready (session .at) (now out) ⌝ }
     ensures { λ r. ⌜ ((m : Memory) → Carries session (with-listened-rows (now (heard .entry)) m) (now (out .entry))
         (asked universe (session .settings) (stateOf (session .receiver) (with-listened-rows (now (heard .entry)) m))) r
@@ -158,11 +165,11 @@ pub fn ask(session: Session, heard: &[u16; 1024], universe: u16, out: &mut [u8])
 
 pub fn poll(
     session: Session,
-    data_pairs: &mut [[u64; 4]; 1024],
-    data_sources: &mut [[u64; 2]; 1024],
-    sync_pairs: &mut [[u64; 4]; 1024],
-    sync_sources: &mut [[u64; 2]; 1024],
-    rows: &mut [[u64; 9]; 64],
+    data_pairs: &mut PairRows,
+    data_sources: &mut SourceRows,
+    sync_pairs: &mut PairRows,
+    sync_sources: &mut SourceRows,
+    rows: &mut EntryRows,
     store: &mut [u8],
     reading: u64,
     out: &mut [u8],
@@ -205,9 +212,9 @@ pub fn poll(
 
 pub fn sweep(
     session: Session,
-    sources: &mut [[u64; 6]; 64],
-    names: &mut [[u8; 63]; 64],
-    pages: &mut [[u64; 5]; 64],
+    sources: &mut HeadRows,
+    names: &mut NameRows,
+    pages: &mut PageRows,
     universes: &mut [u16],
     reading: u64,
     out: &mut [u8],
@@ -237,7 +244,7 @@ pub fn sweep(
 
 pub fn clear(
     session: Session,
-    rows: &mut [[u64; 9]; 64],
+    rows: &mut EntryRows,
     store: &mut [u8],
     universe: u16,
     out: &mut [u8],
@@ -296,16 +303,16 @@ pub fn reset(session: Session, out: &mut [u8]) -> Session
 
 pub fn step_data(
     session: Session,
-    data_pairs: &mut [[u64; 4]; 1024],
-    data_sources: &mut [[u64; 2]; 1024],
-    sync_pairs: &mut [[u64; 4]; 1024],
-    sync_sources: &mut [[u64; 2]; 1024],
-    rows: &mut [[u64; 9]; 64],
+    data_pairs: &mut PairRows,
+    data_sources: &mut SourceRows,
+    sync_pairs: &mut PairRows,
+    sync_sources: &mut SourceRows,
+    rows: &mut EntryRows,
     store: &mut [u8],
-    heard: &mut [u16; 1024],
-    sources: &[[u64; 6]; 64],
-    names: &[[u8; 63]; 64],
-    pages: &mut [[u64; 5]; 64],
+    heard: &mut ListenedUniverses,
+    sources: &HeadRows,
+    names: &NameRows,
+    pages: &mut PageRows,
     universes: &mut [u16],
     line: DataLine,
     bytes: &[u8],
@@ -355,16 +362,16 @@ pub fn step_data(
 
 pub fn step_sync(
     session: Session,
-    data_pairs: &mut [[u64; 4]; 1024],
-    data_sources: &mut [[u64; 2]; 1024],
-    sync_pairs: &mut [[u64; 4]; 1024],
-    sync_sources: &mut [[u64; 2]; 1024],
-    rows: &mut [[u64; 9]; 64],
+    data_pairs: &mut PairRows,
+    data_sources: &mut SourceRows,
+    sync_pairs: &mut PairRows,
+    sync_sources: &mut SourceRows,
+    rows: &mut EntryRows,
     store: &mut [u8],
-    heard: &[u16; 1024],
-    sources: &[[u64; 6]; 64],
-    names: &[[u8; 63]; 64],
-    pages: &[[u64; 5]; 64],
+    heard: &ListenedUniverses,
+    sources: &HeadRows,
+    names: &NameRows,
+    pages: &PageRows,
     universes: &[u16],
     line: SyncLine,
     released: &mut [u8],
@@ -412,16 +419,16 @@ pub fn step_sync(
 
 pub fn step_discovery(
     session: Session,
-    data_pairs: &mut [[u64; 4]; 1024],
-    data_sources: &mut [[u64; 2]; 1024],
-    sync_pairs: &mut [[u64; 4]; 1024],
-    sync_sources: &mut [[u64; 2]; 1024],
-    rows: &mut [[u64; 9]; 64],
+    data_pairs: &mut PairRows,
+    data_sources: &mut SourceRows,
+    sync_pairs: &mut PairRows,
+    sync_sources: &mut SourceRows,
+    rows: &mut EntryRows,
     store: &mut [u8],
-    heard: &[u16; 1024],
-    sources: &mut [[u64; 6]; 64],
-    names: &mut [[u8; 63]; 64],
-    pages: &mut [[u64; 5]; 64],
+    heard: &ListenedUniverses,
+    sources: &mut HeadRows,
+    names: &mut NameRows,
+    pages: &mut PageRows,
     universes: &mut [u16],
     line: PageLine,
     bytes: &[u8],

@@ -2,14 +2,16 @@
 ghost use mathlib.Core.Path.{_≡_};
 ghost use Prim.Native.Nat.{_≤_, _<_};
 ghost use lib.ListN.{length, take, getD};
-ghost use Rattle.pairs.specs.View.{pairsOf, sourcesOf, tableOf};
+ghost use Rattle.pair_rows.specs.View.{pairsOf, sourcesOf};
+ghost use Rattle.pair_tables.specs.View.{tableOf};
 ghost use Rattle.merge.specs.Views.{dmx};
-ghost use Rattle.waiting.specs.Entries.{waitingOf};
-ghost use Rattle.waiting.specs.Entries as held;
+ghost use Rattle.waiting_store.specs.Entries.{waitingOf};
+ghost use Rattle.waiting.specs.Waiting.{store-length};
+ghost use Rattle.waiting_store.specs.Entries as held;
 ghost use Rattle.listening.specs.View.{listenedOf};
-ghost use Rattle.discovery.specs.Rows.{Packing};
-ghost use Rattle.discovery.specs.View as found;
-ghost use Rattle.readouts.specs.Reads.{pages-of, sources-of};
+ghost use Rattle.discovery_rows.specs.Rows.{Packing};
+ghost use Rattle.discovery_calls.specs.View as found;
+ghost use Rattle.discovery_reads.specs.Reads.{pages-of, sources-of};
 ghost use Rattle.receiver.specs.Lent.{lent, lent-in};
 ghost use Rattle.receiver.specs.View.{memory, stateOf, Kept, pool-length};
 ghost use Rattle.replay.specs.Text.{Ready, Tells};
@@ -23,26 +25,33 @@ use crate::print::put_cid;
 use crate::print::put_decimal;
 use crate::print::put_list;
 use crate::print::put_text;
-use discovery::Discovery;
+use discovery_calls::Discovery;
+use discovery_reads::SourceHead;
+use discovery_reads::listed_count;
+use discovery_reads::page_head;
+use discovery_reads::page_total;
+use discovery_reads::page_universes;
+use discovery_reads::partial_count;
+use discovery_reads::place_of_page;
+use discovery_reads::source_head;
+use discovery_reads::source_place;
+use discovery_rows::HeadRows;
+use discovery_rows::NameRows;
+use discovery_rows::PageRows;
 use listening::Listened;
+use listening::ListenedUniverses;
 use merge::DmxData;
 use merge::SourceCid;
+use pair_rows::PairRows;
+use pair_rows::SourceRows;
+use pair_rows::cid_of;
+use pair_rows::pair_of;
+use pair_tables::PairTable;
 use pairs::Pair;
-use pairs::PairTable;
-use pairs::cid_of;
-use pairs::pair_of;
-use readouts::SourceHead;
-use readouts::listed_count;
-use readouts::page_head;
-use readouts::page_total;
-use readouts::page_universes;
-use readouts::partial_count;
-use readouts::place_of_page;
-use readouts::source_head;
-use readouts::source_place;
 use receiver::Receiver;
 use rules::Cid;
-use waiting::Waiting;
+use waiting_calls::Waiting;
+use waiting_store::EntryRows;
 
 // A space and a number.
 fn put_spaced(out: &mut [u8], at: usize, n: u64) -> usize
@@ -66,7 +75,7 @@ fn put_pair(out: &mut [u8], at: usize, mark: u8, pair: Pair) -> usize
     put(&mut *out, g, 10)
 }
 
-fn put_pairs(out: &mut [u8], at: usize, mark: u8, pairs: &[[u64; 4]; 1024], n: usize) -> usize
+fn put_pairs(out: &mut [u8], at: usize, mark: u8, pairs: &PairRows, n: usize) -> usize
     requires { ⌜ Ready at (now out) × (n ≤ 1024) × (length (now pairs) ≡ 1024) ⌝ }
     ensures { λ r. ⌜ Tells (lines (pairLine mark) (pairsOf n (now (pairs .entry)))) (now (out .entry)) at (now (out .exit)) r ⌝ }
 {
@@ -81,7 +90,7 @@ fn put_pairs(out: &mut [u8], at: usize, mark: u8, pairs: &[[u64; 4]; 1024], n: u
     a
 }
 
-fn put_cids(out: &mut [u8], at: usize, sources: &[[u64; 2]; 1024], n: usize) -> usize
+fn put_cids(out: &mut [u8], at: usize, sources: &SourceRows, n: usize) -> usize
     requires { ⌜ Ready at (now out) × (n ≤ 1024) × (length (now sources) ≡ 1024) ⌝ }
     ensures { λ r. ⌜ Tells (cidsText (sourcesOf n (now (sources .entry)))) (now (out .entry)) at (now (out .exit)) r ⌝ }
 {
@@ -104,7 +113,7 @@ fn put_sources_line(
     out: &mut [u8],
     at: usize,
     mark: u8,
-    sources: &[[u64; 2]; 1024],
+    sources: &SourceRows,
     n: usize,
 ) -> usize
     requires { ⌜ Ready at (now out) × (n ≤ 1024) × (length (now sources) ≡ 1024) ⌝ }
@@ -121,8 +130,8 @@ pub fn put_table(
     at: usize,
     mark: u8,
     table: PairTable,
-    pairs: &[[u64; 4]; 1024],
-    sources: &[[u64; 2]; 1024],
+    pairs: &PairRows,
+    sources: &SourceRows,
 ) -> usize
     requires { ⌜ Ready at (now out) × (table .count ≤ 1024) × (table .«source_count» ≤ 1024) × (length (now pairs) ≡ 1024) ×
         (length (now sources) ≡ 1024) ⌝ }
@@ -166,7 +175,7 @@ pub fn put_waiting(
     out: &mut [u8],
     at: usize,
     waiting: Waiting,
-    rows: &[[u64; 9]; 64],
+    rows: &EntryRows,
     store: &[u8],
 ) -> usize
     requires { ⌜ Ready at (now out) × held.Kept (waiting .count) (now rows) (now store) ⌝ }
@@ -194,7 +203,7 @@ pub fn front_numbers(list: &[u16], n: usize) -> &[u16]
     list
 }
 
-pub fn put_listened(out: &mut [u8], at: usize, listened: Listened, heard: &[u16; 1024]) -> usize
+pub fn put_listened(out: &mut [u8], at: usize, listened: Listened, heard: &ListenedUniverses) -> usize
     requires { ⌜ Ready at (now out) ⌝ }
     ensures { λ r. ⌜ Tells (listenedLine (listenedOf listened (now (heard .entry)))) (now (out .entry)) at (now (out .exit)) r ⌝ }
 {
@@ -224,7 +233,7 @@ fn put_page_at(
     cid: Cid,
     k: usize,
     discovery: Discovery,
-    pages: &[[u64; 5]; 64],
+    pages: &PageRows,
     universes: &[u16],
 ) -> usize
     requires { ⌜ Ready at (now out) × Packing (discovery .«page_count») (now pages) (now universes) ×
@@ -247,7 +256,7 @@ fn put_pages(
     cid: Cid,
     total: usize,
     discovery: Discovery,
-    pages: &[[u64; 5]; 64],
+    pages: &PageRows,
     universes: &[u16],
 ) -> usize
     requires { ⌜ Ready at (now out) × Packing (discovery .«page_count») (now pages) (now universes) ×
@@ -306,9 +315,9 @@ fn put_source_at(
     mark: u64,
     k: usize,
     discovery: Discovery,
-    sources: &[[u64; 6]; 64],
-    names: &[[u8; 63]; 64],
-    pages: &[[u64; 5]; 64],
+    sources: &HeadRows,
+    names: &NameRows,
+    pages: &PageRows,
     universes: &[u16],
 ) -> usize
     requires { ⌜ Ready at (now out) × found.Kept discovery (now sources) (now names) (now pages) (now universes) ×
@@ -344,9 +353,9 @@ fn put_sources(
     mark: u64,
     count: usize,
     discovery: Discovery,
-    sources: &[[u64; 6]; 64],
-    names: &[[u8; 63]; 64],
-    pages: &[[u64; 5]; 64],
+    sources: &HeadRows,
+    names: &NameRows,
+    pages: &PageRows,
     universes: &[u16],
 ) -> usize
     requires { ⌜ Ready at (now out) × found.Kept discovery (now sources) (now names) (now pages) (now universes) ×
@@ -380,9 +389,9 @@ fn put_discovered(
     out: &mut [u8],
     at: usize,
     discovery: Discovery,
-    sources: &[[u64; 6]; 64],
-    names: &[[u8; 63]; 64],
-    pages: &[[u64; 5]; 64],
+    sources: &HeadRows,
+    names: &NameRows,
+    pages: &PageRows,
     universes: &[u16],
 ) -> usize
     requires { ⌜ Ready at (now out) × found.Kept discovery (now sources) (now names) (now pages) (now universes) ⌝ }
@@ -421,21 +430,21 @@ pub fn dump(
     out: &mut [u8],
     at: usize,
     receiver: Receiver,
-    data_pairs: &[[u64; 4]; 1024],
-    data_sources: &[[u64; 2]; 1024],
-    sync_pairs: &[[u64; 4]; 1024],
-    sync_sources: &[[u64; 2]; 1024],
-    rows: &[[u64; 9]; 64],
+    data_pairs: &PairRows,
+    data_sources: &SourceRows,
+    sync_pairs: &PairRows,
+    sync_sources: &SourceRows,
+    rows: &EntryRows,
     store: &[u8],
-    heard: &[u16; 1024],
-    sources: &[[u64; 6]; 64],
-    names: &[[u8; 63]; 64],
-    pages: &[[u64; 5]; 64],
+    heard: &ListenedUniverses,
+    sources: &HeadRows,
+    names: &NameRows,
+    pages: &PageRows,
     universes: &[u16],
 ) -> usize
     requires { ⌜ Ready at (now out) × Kept receiver
         (lent-in «data_pairs» «data_sources» «sync_pairs» «sync_sources» rows store heard sources names pages universes) ×
-        (held.store-length ≤ length (now store)) × (pool-length ≤ length (now universes)) ⌝ }
+        (store-length ≤ length (now store)) × (pool-length ≤ length (now universes)) ⌝ }
     ensures { λ r.
         let m = lent «data_pairs» «data_sources» «sync_pairs» «sync_sources» rows store heard sources names pages universes in
         ⌜ Tells (dumpText (stateOf receiver (m .entry))) (now (out .entry)) at (now (out .exit)) r ⌝ }

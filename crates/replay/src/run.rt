@@ -32,7 +32,14 @@ use crate::parse::parse_line;
 use crate::print::flush;
 use crate::print::has_failed;
 use crate::print::put_text;
+use discovery_rows::HeadRows;
+use discovery_rows::NameRows;
+use discovery_rows::PageRows;
 use libc::STDERR_FILENO;
+use listening::ListenedUniverses;
+use pair_rows::PairRows;
+use pair_rows::SourceRows;
+use waiting_store::EntryRows;
 
 // The most bytes of a line, its end not counted.
 const MOST_LINE: usize = 8192;
@@ -73,16 +80,16 @@ fn adjust(session: Session, setting: Setting, out: &mut [u8]) -> Session
 
 fn show(
     session: Session,
-    data_pairs: &[[u64; 4]; 1024],
-    data_sources: &[[u64; 2]; 1024],
-    sync_pairs: &[[u64; 4]; 1024],
-    sync_sources: &[[u64; 2]; 1024],
-    rows: &[[u64; 9]; 64],
+    data_pairs: &PairRows,
+    data_sources: &SourceRows,
+    sync_pairs: &PairRows,
+    sync_sources: &SourceRows,
+    rows: &EntryRows,
     store: &[u8],
-    heard: &[u16; 1024],
-    sources: &[[u64; 6]; 64],
-    names: &[[u8; 63]; 64],
-    pages: &[[u64; 5]; 64],
+    heard: &ListenedUniverses,
+    sources: &HeadRows,
+    names: &NameRows,
+    pages: &PageRows,
     universes: &[u16],
     out: &mut [u8],
 ) -> Session
@@ -120,16 +127,16 @@ fn show(
 
 fn execute(
     session: Session,
-    data_pairs: &mut [[u64; 4]; 1024],
-    data_sources: &mut [[u64; 2]; 1024],
-    sync_pairs: &mut [[u64; 4]; 1024],
-    sync_sources: &mut [[u64; 2]; 1024],
-    rows: &mut [[u64; 9]; 64],
+    data_pairs: &mut PairRows,
+    data_sources: &mut SourceRows,
+    sync_pairs: &mut PairRows,
+    sync_sources: &mut SourceRows,
+    rows: &mut EntryRows,
     store: &mut [u8],
-    heard: &mut [u16; 1024],
-    sources: &mut [[u64; 6]; 64],
-    names: &mut [[u8; 63]; 64],
-    pages: &mut [[u64; 5]; 64],
+    heard: &mut ListenedUniverses,
+    sources: &mut HeadRows,
+    names: &mut NameRows,
+    pages: &mut PageRows,
     universes: &mut [u16],
     command: Command,
     bytes: &[u8],
@@ -252,16 +259,16 @@ fn is_silent(line: &[u8]) -> bool
 // A line, or the front of one that is too long.
 fn carry_line(
     session: Session,
-    data_pairs: &mut [[u64; 4]; 1024],
-    data_sources: &mut [[u64; 2]; 1024],
-    sync_pairs: &mut [[u64; 4]; 1024],
-    sync_sources: &mut [[u64; 2]; 1024],
-    rows: &mut [[u64; 9]; 64],
+    data_pairs: &mut PairRows,
+    data_sources: &mut SourceRows,
+    sync_pairs: &mut PairRows,
+    sync_sources: &mut SourceRows,
+    rows: &mut EntryRows,
     store: &mut [u8],
-    heard: &mut [u16; 1024],
-    sources: &mut [[u64; 6]; 64],
-    names: &mut [[u8; 63]; 64],
-    pages: &mut [[u64; 5]; 64],
+    heard: &mut ListenedUniverses,
+    sources: &mut HeadRows,
+    names: &mut NameRows,
+    pages: &mut PageRows,
     universes: &mut [u16],
     line: &[u8],
     long: bool,
@@ -316,16 +323,16 @@ pub struct Turn {
 fn take_line(
     session: Session,
     input: Input,
-    data_pairs: &mut [[u64; 4]; 1024],
-    data_sources: &mut [[u64; 2]; 1024],
-    sync_pairs: &mut [[u64; 4]; 1024],
-    sync_sources: &mut [[u64; 2]; 1024],
-    rows: &mut [[u64; 9]; 64],
+    data_pairs: &mut PairRows,
+    data_sources: &mut SourceRows,
+    sync_pairs: &mut PairRows,
+    sync_sources: &mut SourceRows,
+    rows: &mut EntryRows,
     store: &mut [u8],
-    heard: &mut [u16; 1024],
-    sources: &mut [[u64; 6]; 64],
-    names: &mut [[u8; 63]; 64],
-    pages: &mut [[u64; 5]; 64],
+    heard: &mut ListenedUniverses,
+    sources: &mut HeadRows,
+    names: &mut NameRows,
+    pages: &mut PageRows,
     universes: &mut [u16],
     chunk: &mut [u8],
     text: &mut [u8],
@@ -402,16 +409,16 @@ fn report(unread: bool, unwritten: bool) {
 // Line after line. Nothing says that an input ends, so the lines are counted down from a number that no run uses up.
 pub fn run(
     session: Session,
-    data_pairs: &mut [[u64; 4]; 1024],
-    data_sources: &mut [[u64; 2]; 1024],
-    sync_pairs: &mut [[u64; 4]; 1024],
-    sync_sources: &mut [[u64; 2]; 1024],
-    rows: &mut [[u64; 9]; 64],
+    data_pairs: &mut PairRows,
+    data_sources: &mut SourceRows,
+    sync_pairs: &mut PairRows,
+    sync_sources: &mut SourceRows,
+    rows: &mut EntryRows,
     store: &mut [u8],
-    heard: &mut [u16; 1024],
-    sources: &mut [[u64; 6]; 64],
-    names: &mut [[u8; 63]; 64],
-    pages: &mut [[u64; 5]; 64],
+    heard: &mut ListenedUniverses,
+    sources: &mut HeadRows,
+    names: &mut NameRows,
+    pages: &mut PageRows,
     universes: &mut [u16],
     chunk: &mut [u8],
     text: &mut [u8],

@@ -25,10 +25,10 @@ use Rattle.waiting.specs.Answers.{storeNumberOf, storeValuesOf, releaseNumberOf
 use Rattle.waiting.specs.Waiting.{cleared, left}
 use Rattle.waiting.specs.Waiting as waiting
 use Rattle.waiting.specs.Records.{encode, records, over}
-use Rattle.waiting.specs.Entries.{waitingOf, lent-none}
-use Rattle.waiting.specs.Entries as entries
-use Rattle.waiting.specs.Written.{Laid, Writing}
-use Rattle.waiting.specs.Calls.{Yields, StoredCall, StoreCalled, taken-is, taken-call, ReleaseCalled, released-is, released-leaves, released-writes, SweptCall}
+use Rattle.waiting_store.specs.Entries.{waitingOf, lent-none}
+use Rattle.waiting_store.specs.Entries as entries
+use Rattle.waiting_store.specs.Written.{Laid, Writing}
+use Rattle.waiting_calls.specs.Calls.{Yields, StoredCall, StoreCalled, taken-is, taken-call, ReleaseCalled, released-is, released-leaves, released-writes, SweptCall}
 use Rattle.model.specs.Answer.{stepNumber}
 use Rattle.listening.specs.declared.ListenDone.{ListenDone}
 use Rattle.listening.specs.View.{listenedOf, Listens}
@@ -52,8 +52,8 @@ use Rattle.sequences.specs.declared.SequenceNumbering.{SequenceNumbering}
 use Rattle.sequences.specs.View as numbered
 use Rattle.sequences.specs.Laws.{answer-some, answer-none}
 use Rattle.sequences.specs.Sequences.{Numbers, numbers, timeouts, timeouts-data, timeouts-sync}
-use Rattle.pairs.specs.View as counted
-use Rattle.pairs.specs.View.{Rows}
+use Rattle.pair_tables.specs.View as counted
+use Rattle.pair_rows.specs.View.{Rows}
 use Rattle.packets.specs.View.{packetOf}
 use Rattle.steps.specs.View.{dataOf, Lent, lentOf, waits, hears, Releases, Ready, Holds, Accepts, Counted, counts, Tells, storeSaid, releaseSaid, Arrives, Synchronises, Polls}
 

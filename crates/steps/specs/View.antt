@@ -18,17 +18,19 @@ use Rattle.waiting.specs.declared.ReleaseAnswer.{ReleaseAnswer}
 use Rattle.waiting.specs.declared.ReleaseAnswer.the-variants as releasing
 use Rattle.waiting.specs.Waiting.{cleared}
 use Rattle.waiting.specs.Records.{records, over}
-use Rattle.waiting.specs.Entries.{waitingOf}
-use Rattle.waiting.specs.Entries as waiting
-use Rattle.waiting.specs.Calls.{Yields}
+use Rattle.waiting_store.specs.Entries.{waitingOf}
+use Rattle.waiting_store.specs.Entries as waiting
+use Rattle.waiting_calls.specs.Calls.{Yields}
 use Rattle.listening.specs.declared.Listened.{Listened}
 use Rattle.listening.specs.View.{listenedOf}
 use Rattle.listening.specs.View as listening
-use Rattle.pairs.specs.declared.PairTable.{PairTable}
+use Rattle.pair_tables.specs.declared.PairTable.{PairTable}
 use Rattle.pairs.specs.declared.SweepAnswer.{SweepAnswer}
 use Rattle.pairs.specs.Table.{Table, Key}
-use Rattle.pairs.specs.View.{Rows, tableOf, answerOf}
-use Rattle.pairs.specs.View as counted
+use Rattle.pairs.specs.Answers.{answerOf}
+use Rattle.pair_rows.specs.View.{Rows}
+use Rattle.pair_tables.specs.View.{tableOf}
+use Rattle.pair_tables.specs.View as counted
 use Rattle.sequences.specs.declared.SequenceNumbering.{SequenceNumbering}
 use Rattle.sequences.specs.View as numbered
 use Rattle.model.specs.declared.StepAnswer.{StepAnswer}

@@ -2,36 +2,40 @@
 ghost use mathlib.Core.Path.{_≡_};
 ghost use Prim.Native.Nat.{_≤_};
 ghost use lib.ListN.{length};
-ghost use Rattle.waiting.specs.Entries as held;
+ghost use Rattle.waiting_store.specs.Entries as held;
 ghost use Rattle.listening.specs.View as hearing;
 ghost use Rattle.waiting.specs.Answers.{storeNumberOf, storeValuesOf, releaseNumberOf};
 ghost use Rattle.model.specs.Answer.{stepNumber};
 ghost use Rattle.model.specs.Step.{stopped};
 ghost use Rattle.pairs.specs.Table.{numberOf, valuesOf};
-ghost use Rattle.pairs.specs.View as counted;
+ghost use Rattle.pair_tables.specs.View as counted;
 ghost use Rattle.sequences.specs.View as numbered;
 ghost use Rattle.packets.specs.View.{packetOf, syncOf};
 ghost use Rattle.steps.specs.View.{dataOf, lentOf, rowsOf, storeSaid, releaseSaid};
 ghost use Rattle.steps.specs.View.{Tells, Releases, Holds, Accepts, Arrives, Synchronises, Polls};
 use listening::Listened;
+use listening::ListenedUniverses;
 use merge::DmxData;
 use merge::SourceCid;
 use model::ListenAnswer;
 use model::StepAnswer;
 use packets::DataPacket;
 use packets::SyncPacket;
+use pair_rows::PairRows;
+use pair_rows::SourceRows;
+use pair_tables::DataTable;
+use pair_tables::SyncTable;
 use pairs::Checked;
-use pairs::DataTable;
 use pairs::SweepAnswer;
-use pairs::SyncTable;
 use pairs::is_accepted;
 use sequences::SequenceNumbering;
 use settings::Settings;
 use waiting::ReleaseAnswer;
 use waiting::StoreAnswer;
 use waiting::StoreCall;
-use waiting::Waiting;
-use waiting::write_record;
+use waiting_calls::Waiting;
+use waiting_store::EntryRows;
+use waiting_store::write_record;
 
 struct PacketReleased {
     waiting: Waiting,
@@ -77,7 +81,7 @@ fn stored_answer(a: StoreCall) -> StepAnswer
 // Address 0: this universe's waiting data goes, and the packet is released.
 fn release_packet(
     waiting: Waiting,
-    rows: &mut [[u64; 9]; 64],
+    rows: &mut EntryRows,
     store: &mut [u8],
     reading: u64,
     packet: DataPacket,
@@ -103,9 +107,9 @@ fn release_packet(
 fn hold_packet(
     waiting: Waiting,
     listened: Listened,
-    rows: &mut [[u64; 9]; 64],
+    rows: &mut EntryRows,
     store: &mut [u8],
-    heard: &mut [u16; 1024],
+    heard: &mut ListenedUniverses,
     settings: Settings,
     reading: u64,
     packet: DataPacket,
@@ -150,9 +154,9 @@ fn hold_packet(
 fn accept_data(
     waiting: Waiting,
     listened: Listened,
-    rows: &mut [[u64; 9]; 64],
+    rows: &mut EntryRows,
     store: &mut [u8],
-    heard: &mut [u16; 1024],
+    heard: &mut ListenedUniverses,
     settings: Settings,
     reading: u64,
     packet: DataPacket,
@@ -250,11 +254,11 @@ pub fn arrive_data(
     data: DataTable,
     waiting: Waiting,
     listened: Listened,
-    pairs: &mut [[u64; 4]; 1024],
-    sources: &mut [[u64; 2]; 1024],
-    rows: &mut [[u64; 9]; 64],
+    pairs: &mut PairRows,
+    sources: &mut SourceRows,
+    rows: &mut EntryRows,
     store: &mut [u8],
-    heard: &mut [u16; 1024],
+    heard: &mut ListenedUniverses,
     settings: Settings,
     reading: u64,
     packet: DataPacket,
@@ -319,9 +323,9 @@ pub fn arrive_data(
 pub fn arrive_sync(
     sync: SyncTable,
     waiting: Waiting,
-    pairs: &mut [[u64; 4]; 1024],
-    sources: &mut [[u64; 2]; 1024],
-    rows: &mut [[u64; 9]; 64],
+    pairs: &mut PairRows,
+    sources: &mut SourceRows,
+    rows: &mut EntryRows,
     store: &mut [u8],
     settings: Settings,
     reading: u64,
@@ -373,11 +377,11 @@ pub fn arrive_sync(
 pub fn poll(
     sequences: SequenceNumbering,
     waiting: Waiting,
-    data_pairs: &mut [[u64; 4]; 1024],
-    data_sources: &mut [[u64; 2]; 1024],
-    sync_pairs: &mut [[u64; 4]; 1024],
-    sync_sources: &mut [[u64; 2]; 1024],
-    rows: &mut [[u64; 9]; 64],
+    data_pairs: &mut PairRows,
+    data_sources: &mut SourceRows,
+    sync_pairs: &mut PairRows,
+    sync_sources: &mut SourceRows,
+    rows: &mut EntryRows,
     store: &mut [u8],
     settings: Settings,
     reading: u64,

@@ -11,33 +11,35 @@ use Rattle.table.specs.Cases.{split, found, clash, missing}
 use Rattle.rules.specs.declared.Cid.{Cid}
 use Rattle.rules.specs.Answer.{Value, first-of}
 use Rattle.settings.specs.declared.Settings.{Settings}
-use Rattle.pairs.specs.View.{Rows, answerOf, sweepNumberOf, sweepValuesOf}
+use Rattle.pairs.specs.Answers.{answerOf, sweepNumberOf, sweepValuesOf}
+use Rattle.pair_rows.specs.View.{Rows}
 use Rattle.pairs.specs.Table.{Key, key, pairAt}
-use Rattle.pairs.specs.declared.DataTable.{DataTable}
-use Rattle.pairs.specs.declared.SyncTable.{SyncTable}
+use Rattle.pair_tables.specs.declared.DataTable.{DataTable}
+use Rattle.pair_tables.specs.declared.SyncTable.{SyncTable}
 use Rattle.pairs.specs.declared.SweepAnswer.{SweepAnswer}
 use Rattle.pairs.specs.declared.SweepAnswer.the-variants.{Quiet, TimedOut}
 use Rattle.sequences.specs.declared.SequenceNumbering.{SequenceNumbering}
 use Rattle.sequences.specs.Sequences.{numbers, removed}
 use Rattle.sequences.specs.View as sequences
 use Rattle.sequences.specs.Laws.{answer-some, answer-none, removed-found}
-use Rattle.waiting.specs.declared.Waiting.{Waiting}
+use Rattle.waiting_calls.specs.declared.Waiting.{Waiting}
 use Rattle.waiting.specs.Records.{most-bytes}
 use Rattle.waiting.specs.Laws.{over-none}
-use Rattle.waiting.specs.Entries.{store-length, lent-none}
-use Rattle.waiting.specs.Entries as waiting
+use Rattle.waiting.specs.Waiting.{store-length}
+use Rattle.waiting_store.specs.Entries.{lent-none}
+use Rattle.waiting_store.specs.Entries as waiting
 use Rattle.listening.specs.declared.Listened.{Listened}
-use Rattle.discovery.specs.declared.Discovery.{Discovery}
+use Rattle.discovery_calls.specs.declared.Discovery.{Discovery}
 use Rattle.discovery.specs.declared.PageAnswer.{PageAnswer}
 use Rattle.discovery.specs.declared.PageAnswer.the-variants as page
 use Rattle.discovery.specs.declared.PageCall.{PageCall}
 use Rattle.discovery.specs.declared.PageCall.the-variants as paging
-use Rattle.discovery.specs.declared.PageCalled.{PageCalled}
+use Rattle.discovery_calls.specs.declared.PageCalled.{PageCalled}
 use Rattle.discovery.specs.Discovery.{Discovered, arrived, ended}
-use Rattle.discovery.specs.View.{discoveredOf, Holds}
-use Rattle.discovery.specs.View as discovery
-use Rattle.discovery.specs.Arrive.{Called, page-call-fits}
-use Rattle.discovery.specs.Lent as pool
+use Rattle.discovery_calls.specs.View.{discoveredOf, Holds}
+use Rattle.discovery_calls.specs.View as discovery
+use Rattle.discovery_calls.specs.Arrive.{Called, page-call-fits}
+use Rattle.discovery_rows.specs.Lent as pool
 use Rattle.space.specs.Space.{spaceOf}
 use Rattle.model.specs.declared.StepAnswer.{StepAnswer}
 use Rattle.model.specs.declared.StepAnswer.the-variants as says

@@ -10,14 +10,14 @@ use Rattle.rules.specs.declared.Cid.{Cid}
 use Rattle.rules.specs.Answer.{Value, first-of}
 use Rattle.settings.specs.declared.Settings.{Settings}
 use Rattle.pairs.specs.Table.{Key}
-use Rattle.pairs.specs.View.{answerOf, sweepNumberOf, sweepValuesOf}
+use Rattle.pairs.specs.Answers.{answerOf, sweepNumberOf, sweepValuesOf}
 use Rattle.merge.specs.Merge.{Dmx}
 use Rattle.waiting.specs.Records.{records, over}
-use Rattle.waiting.specs.Entries as waiting
+use Rattle.waiting_store.specs.Entries as waiting
 use Rattle.discovery.specs.Discovery.{callNumber, callValues}
 use Rattle.discovery.specs.declared.PageCall.{PageCall}
 use Rattle.discovery.specs.declared.PageCall.the-variants as paging
-use Rattle.discovery.specs.Lent as pool
+use Rattle.discovery_rows.specs.Lent as pool
 use Rattle.space.specs.declared.Measured.{Measured}
 use Rattle.space.specs.Space.{shortage, excess, measuredNumber, measuredValues}
 use Rattle.model.specs.declared.StepAnswer.{StepAnswer}

@@ -4,11 +4,11 @@ ghost use mathlib.Core.Bool.{not, _&&_};
 ghost use mathlib.Core.List.{List};
 ghost use Prim.Native.Nat.{ℕ, _≤_};
 ghost use lib.ListN.{length};
-ghost use Rattle.waiting.specs.Entries as waiting;
+ghost use Rattle.waiting_store.specs.Entries as waiting;
 ghost use Rattle.listening.specs.View as listening;
 ghost use Rattle.sequences.specs.View as sequences;
-ghost use Rattle.discovery.specs.View as discovery;
-ghost use Rattle.pairs.specs.View as pairs;
+ghost use Rattle.discovery_calls.specs.View as discovery;
+ghost use Rattle.pair_tables.specs.View as pairs;
 ghost use Rattle.model.specs.Packet.{data-packet, sync-packet, discovery-packet};
 ghost use Rattle.model.specs.Step.{listed};
 ghost use Rattle.packets.specs.View.{packetOf, syncOf};
@@ -23,10 +23,16 @@ ghost use Rattle.space.specs.Finds.{longOf};
 ghost use Rattle.taking.specs.View.{courseOf, Opens, Ends, called, Tells, Takes};
 use discovery::PageAnswer;
 use discovery::PageCall;
+use discovery_rows::HeadRows;
+use discovery_rows::NameRows;
+use discovery_rows::PageRows;
+use listening::ListenedUniverses;
 use model::StepAnswer;
 use packets::DataPacket;
 use packets::DiscoveryPacket;
 use packets::SyncPacket;
+use pair_rows::PairRows;
+use pair_rows::SourceRows;
 use pairs::SweepAnswer;
 use receiver::Receiver;
 use rules::Cid;
@@ -37,6 +43,7 @@ use space::test_space;
 use steps::arrive_data;
 use steps::arrive_sync;
 use steps::poll;
+use waiting_store::EntryRows;
 
 // What a step leaves and answers.
 pub struct Handled {
@@ -111,11 +118,11 @@ fn course_of(terminated: bool, listening: bool) -> Course
 // 1 and 2 of a step: lent memory, the packet's own parts, then the poll.
 pub fn open(
     receiver: Receiver,
-    data_pairs: &mut [[u64; 4]; 1024],
-    data_sources: &mut [[u64; 2]; 1024],
-    sync_pairs: &mut [[u64; 4]; 1024],
-    sync_sources: &mut [[u64; 2]; 1024],
-    rows: &mut [[u64; 9]; 64],
+    data_pairs: &mut PairRows,
+    data_sources: &mut SourceRows,
+    sync_pairs: &mut PairRows,
+    sync_sources: &mut SourceRows,
+    rows: &mut EntryRows,
     store: &mut [u8],
     universes: &[u16],
     settings: Settings,
@@ -186,11 +193,11 @@ pub fn open(
 // 4: a synchronisation packet.
 pub fn take_sync(
     receiver: Receiver,
-    sync_pairs: &mut [[u64; 4]; 1024],
-    sync_sources: &mut [[u64; 2]; 1024],
-    rows: &mut [[u64; 9]; 64],
+    sync_pairs: &mut PairRows,
+    sync_sources: &mut SourceRows,
+    rows: &mut EntryRows,
     store: &mut [u8],
-    heard: &[u16; 1024],
+    heard: &ListenedUniverses,
     settings: Settings,
     reading: u64,
     packet: SyncPacket,
@@ -248,9 +255,9 @@ pub fn take_sync(
 // 5: a discovery packet.
 pub fn take_discovery(
     receiver: Receiver,
-    sources: &mut [[u64; 6]; 64],
-    names: &mut [[u8; 63]; 64],
-    pages: &mut [[u64; 5]; 64],
+    sources: &mut HeadRows,
+    names: &mut NameRows,
+    pages: &mut PageRows,
     universes: &mut [u16],
     settings: Settings,
     reading: u64,
@@ -300,13 +307,13 @@ pub fn take_discovery(
 // A stream that ends: its pairs go, and its universe from the listed source's pages.
 fn end_stream(
     receiver: Receiver,
-    data_pairs: &mut [[u64; 4]; 1024],
-    data_sources: &mut [[u64; 2]; 1024],
-    sync_pairs: &mut [[u64; 4]; 1024],
-    sync_sources: &mut [[u64; 2]; 1024],
-    sources: &[[u64; 6]; 64],
-    names: &[[u8; 63]; 64],
-    pages: &mut [[u64; 5]; 64],
+    data_pairs: &mut PairRows,
+    data_sources: &mut SourceRows,
+    sync_pairs: &mut PairRows,
+    sync_sources: &mut SourceRows,
+    sources: &HeadRows,
+    names: &NameRows,
+    pages: &mut PageRows,
     universes: &mut [u16],
     cid: Cid,
     universe: u16,
@@ -341,16 +348,16 @@ fn end_stream(
 // 3: a data packet.
 pub fn take_data(
     receiver: Receiver,
-    data_pairs: &mut [[u64; 4]; 1024],
-    data_sources: &mut [[u64; 2]; 1024],
-    sync_pairs: &mut [[u64; 4]; 1024],
-    sync_sources: &mut [[u64; 2]; 1024],
-    rows: &mut [[u64; 9]; 64],
+    data_pairs: &mut PairRows,
+    data_sources: &mut SourceRows,
+    sync_pairs: &mut PairRows,
+    sync_sources: &mut SourceRows,
+    rows: &mut EntryRows,
     store: &mut [u8],
-    heard: &mut [u16; 1024],
-    sources: &[[u64; 6]; 64],
-    names: &[[u8; 63]; 64],
-    pages: &mut [[u64; 5]; 64],
+    heard: &mut ListenedUniverses,
+    sources: &HeadRows,
+    names: &NameRows,
+    pages: &mut PageRows,
     universes: &mut [u16],
     settings: Settings,
     reading: u64,

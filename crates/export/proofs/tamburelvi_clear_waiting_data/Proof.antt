@@ -3,8 +3,8 @@
 use mathlib.Core.Path.{sym, subst}
 use Prim.Native.Nat.{_≤_}
 use lib.ListN.{length}
-use Rattle.waiting.specs.Entries.{store-length}
-use Rattle.waiting.specs.Entries as held
+use Rattle.waiting.specs.Waiting.{store-length}
+use Rattle.waiting_store.specs.Entries as held
 use Rattle.model.specs.Answer.{clearNumber, clearValues}
 use Rattle.model.specs.Calls.{clear-call}
 use Rattle.receiver.specs.View.{with-waiting-rows}

@@ -6,8 +6,8 @@ use lib.ListN.{length}
 use Rattle.settings.specs.declared.Settings.{Settings}
 use Rattle.sequences.specs.View.{lent}
 use Rattle.sequences.specs.View as numbered
-use Rattle.waiting.specs.Entries.{store-length}
-use Rattle.waiting.specs.Entries as held
+use Rattle.waiting.specs.Waiting.{store-length}
+use Rattle.waiting_store.specs.Entries as held
 use Rattle.model.specs.Answer.{pollNumber, pollValues}
 use Rattle.model.specs.Calls.{poll-call}
 use Rattle.receiver.specs.View.{with-sequence-rows, with-waiting-rows, Does}

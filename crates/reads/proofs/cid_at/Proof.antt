@@ -3,7 +3,7 @@
 use mathlib.Core.Path.{sym, _∙_}
 use mathlib.Core.List.{[]}
 use native.Mathlib.Omega.{arith}
-use Rattle.pairs.specs.View.{cidOf}
+use Rattle.pair_rows.specs.View.{cidOf}
 use Rattle.reads.specs.Reads.{zero-cid, none-in-use, none-there, entry-at}
 use borrow.Author.Needs.{needs}
 use Rattle.reads.proofs.cid_at.Statement.{statement}

@@ -1,6 +1,6 @@
 -- The row read by its words.
 -- Assumes nothing.
-use Rattle.pairs.specs.View.{cidOf}
+use Rattle.pair_rows.specs.View.{cidOf}
 use borrow.Author.Needs.{needs}
 use Rattle.reads.proofs.read_cid.Statement.{statement}
 use Rattle.reads.proofs.read_cid.Tie as tie

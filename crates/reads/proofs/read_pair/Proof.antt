@@ -1,6 +1,6 @@
 -- The row read by its words.
 -- Assumes nothing.
-use Rattle.pairs.specs.View.{cidOf, pairOf}
+use Rattle.pair_rows.specs.View.{cidOf, pairOf}
 use borrow.Author.Needs.{needs}
 use Rattle.reads.proofs.read_pair.Statement.{statement}
 use Rattle.reads.proofs.read_pair.Tie as tie

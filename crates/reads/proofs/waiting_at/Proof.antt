@@ -4,7 +4,7 @@ use mathlib.Core.Path.{ap, _∙_}
 use mathlib.Core.List.{List}
 use lib.ListN.{getD}
 use Rattle.merge.specs.Merge.{Dmx}
-use Rattle.waiting.specs.Entries.{nothing}
+use Rattle.waiting_store.specs.Entries.{nothing}
 use Rattle.reads.specs.Reads.{waiting-within}
 use borrow.Author.Needs.{needs}
 use Rattle.reads.proofs.waiting_at.Statement.{statement}

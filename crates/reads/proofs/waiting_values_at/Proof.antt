@@ -5,8 +5,8 @@ use mathlib.Core.List.{List}
 use native.Mathlib.Omega.{arith}
 use lib.ListN.{getD}
 use Rattle.merge.specs.Merge.{Dmx}
-use Rattle.waiting.specs.Entries.{nothing}
-use Rattle.waiting.specs.Calls.{values-past}
+use Rattle.waiting_store.specs.Entries.{nothing}
+use Rattle.waiting_calls.specs.Calls.{values-past}
 use Rattle.reads.specs.Reads.{values-lie, waiting-within}
 use borrow.Author.Needs.{needs}
 use Rattle.reads.proofs.waiting_values_at.Statement.{statement}

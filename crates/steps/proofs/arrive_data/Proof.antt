@@ -10,7 +10,7 @@ use Rattle.steps.proofs.arrive_data.Statement.{statement}
 use Rattle.steps.proofs.arrive_data.Tie as tie
 use Rattle.steps.proofs.arrive_data.Reads as reads
 use Rattle.steps.proofs.arrive_data.Lts as lts
-use Rattle.pairs.proofs.DataTable.check_seq_number.Reads as check-seq-number-reads
+use Rattle.pair_tables.proofs.DataTable.check_seq_number.Reads as check-seq-number-reads
 use Rattle.steps.proofs.accept_data.Reads as accept-data-reads
 use Rattle.steps.proofs.stop_answer.Reads as stop-answer-reads
 

@@ -10,10 +10,10 @@ use Rattle.steps.proofs.arrive_sync.Statement.{statement}
 use Rattle.steps.proofs.arrive_sync.Tie as tie
 use Rattle.steps.proofs.arrive_sync.Reads as reads
 use Rattle.steps.proofs.arrive_sync.Lts as lts
-use Rattle.pairs.proofs.SyncTable.check_seq_number.Reads as check-seq-number-reads
+use Rattle.pair_tables.proofs.SyncTable.check_seq_number.Reads as check-seq-number-reads
 use Rattle.steps.proofs.release_answer.Reads as release-answer-reads
 use Rattle.steps.proofs.stop_answer.Reads as stop-answer-reads
-use Rattle.waiting.proofs.Waiting.rtrv_waiting_data.Reads as rtrv-waiting-data-reads
+use Rattle.waiting_calls.proofs.Waiting.rtrv_waiting_data.Reads as rtrv-waiting-data-reads
 
 check-seq-number-requires : tie.Need-check-seq-number-requires
 check-seq-number-requires c κs = search needs

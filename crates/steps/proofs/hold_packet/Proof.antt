@@ -3,7 +3,7 @@
 use mathlib.Core.Path.{sym, subst}
 use Rattle.merge.specs.declared.DmxData.{DmxData}
 use Rattle.merge.specs.Views.{dmx}
-use Rattle.waiting.specs.Calls.{StoreCalled}
+use Rattle.waiting_calls.specs.Calls.{StoreCalled}
 use Rattle.model.specs.declared.StepAnswer.{StepAnswer}
 use Rattle.model.specs.Step as model
 use Rattle.packets.specs.View.{packetOf}
@@ -17,7 +17,7 @@ use Rattle.steps.proofs.hold_packet.Lts as lts
 use Rattle.listening.proofs.Listened.listen_universe.Reads as listen-universe-reads
 use Rattle.steps.proofs.dmx_data.Reads as dmx-data-reads
 use Rattle.steps.proofs.stored_answer.Reads as stored-answer-reads
-use Rattle.waiting.proofs.Waiting.store_waiting_data.Reads as store-waiting-data-reads
+use Rattle.waiting_calls.proofs.Waiting.store_waiting_data.Reads as store-waiting-data-reads
 
 listen-universe-requires : tie.Need-listen-universe-requires
 listen-universe-requires c κs = search needs

@@ -8,7 +8,7 @@ use Rattle.steps.proofs.poll.Tie as tie
 use Rattle.steps.proofs.poll.Reads as reads
 use Rattle.steps.proofs.poll.Lts as lts
 use Rattle.sequences.proofs.SequenceNumbering.check_timeouts.Reads as check-timeouts-reads
-use Rattle.waiting.proofs.Waiting.check_waiting_data_timeouts.Reads as check-waiting-data-timeouts-reads
+use Rattle.waiting_calls.proofs.Waiting.check_waiting_data_timeouts.Reads as check-waiting-data-timeouts-reads
 
 check-timeouts-requires : tie.Need-check-timeouts-requires
 check-timeouts-requires c κs = search needs

@@ -2,7 +2,7 @@
 -- Assumes nothing.
 use mathlib.Core.Path.{subst}
 use Rattle.merge.specs.declared.DmxData.{DmxData}
-use Rattle.waiting.specs.Written.{Laid}
+use Rattle.waiting_store.specs.Written.{Laid}
 use Rattle.steps.specs.Laws.{releases}
 use borrow.Author.Needs.{needs}
 use Rattle.steps.proofs.release_packet.Statement.{statement}
@@ -10,8 +10,8 @@ use Rattle.steps.proofs.release_packet.Tie as tie
 use Rattle.steps.proofs.release_packet.Reads as reads
 use Rattle.steps.proofs.release_packet.Lts as lts
 use Rattle.steps.proofs.dmx_data.Reads as dmx-data-reads
-use Rattle.waiting.proofs.Waiting.clear_waiting_data.Reads as clear-waiting-data-reads
-use Rattle.waiting.proofs.write_record.Reads as write-record-reads
+use Rattle.waiting_calls.proofs.Waiting.clear_waiting_data.Reads as clear-waiting-data-reads
+use Rattle.waiting_store.proofs.write_record.Reads as write-record-reads
 
 clear-waiting-data-requires : tie.Need-clear-waiting-data-requires
 clear-waiting-data-requires c κs = search needs

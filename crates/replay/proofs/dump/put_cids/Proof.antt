@@ -6,7 +6,7 @@ use Prim.Native.Nat.{ℕ, _≤_, _-_}
 use native.Mathlib.Omega.{arith}
 use lib.ListN.{length, take, drop, getD}
 use Rattle.rules.specs.declared.Cid.{Cid}
-use Rattle.pairs.specs.View.{cidOf}
+use Rattle.pair_rows.specs.View.{cidOf}
 use Rattle.replay.specs.Text.{Tells, cidText}
 use Rattle.replay.specs.TextLaws.{tells-none, tells-as, tells-then}
 use Rattle.replay.specs.Dump.{cidsTail}

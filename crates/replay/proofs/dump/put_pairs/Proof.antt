@@ -6,7 +6,7 @@ use Prim.Native.Nat.{ℕ, _≤_, _-_}
 use native.Mathlib.Omega.{arith}
 use lib.ListN.{length, take, getD}
 use Rattle.pairs.specs.declared.Pair.{Pair}
-use Rattle.pairs.specs.View.{pairOf, pairsOf}
+use Rattle.pair_rows.specs.View.{pairOf, pairsOf}
 use Rattle.replay.specs.Text.{Tells}
 use Rattle.replay.specs.TextLaws.{tells-none, tells-as}
 use Rattle.replay.specs.Dump.{lines, pairLine}

@@ -5,7 +5,7 @@ use Prim.Native.Nat.{ℕ, _≤_, _<_, _-_}
 use native.Mathlib.Omega.{arith}
 use lib.ListN.{length, take}
 use lib.Seq.{take-all}
-use Rattle.readouts.specs.Reads.{sources-of}
+use Rattle.discovery_reads.specs.Reads.{sources-of}
 use Rattle.replay.specs.Text.{Tells}
 use Rattle.replay.specs.TextLaws.{tells-none, tells-as}
 use Rattle.replay.specs.Dump.{lines, sourceText}

@@ -6,7 +6,7 @@ use Prim.Native.Nat.{ℕ, _≤_, _<_, _-_}
 use native.Mathlib.Omega.{arith}
 use lib.ListN.{length, take, getD}
 use lib.Seq.{take-all}
-use Rattle.waiting.specs.Entries.{waitingOf, nothing}
+use Rattle.waiting_store.specs.Entries.{waitingOf, nothing}
 use Rattle.replay.specs.Text.{Tells}
 use Rattle.replay.specs.TextLaws.{tells-none, tells-as}
 use Rattle.replay.specs.Dump.{lines, waitingLine}
