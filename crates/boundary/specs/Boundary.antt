@@ -29,7 +29,7 @@ use Rattle.discovery.specs.Discovery.{Announcement}
 use Rattle.waiting.specs.Records.{bit}
 use Rattle.model.specs.Packet.{DataPacket, SyncPacket}
 use Rattle.receiver.specs.declared.Receiver.{Receiver}
-use Rattle.taking.specs.declared.Handled.{Handled}
+use Rattle.steps.specs.declared.Handled.{Handled}
 use Rattle.boundary.specs.declared.Header.{Header}
 use Rattle.boundary.specs.declared.Choices.{Choices}
 use Rattle.boundary.specs.declared.Data.{Data}

@@ -21,7 +21,7 @@ use Rattle.model.specs.declared.ClearAnswer.{ClearAnswer}
 use Rattle.model.specs.declared.ClearAnswer.the-variants as clearing
 use Rattle.model.specs.Answer.{stepNumber, stepValues, pollNumber, pollValues, expiryNumber, expiryValues, listenNumber, listenValues, muteNumber, muteValues, clearNumber, clearValues}
 use Rattle.receiver.specs.declared.Receiver.{Receiver}
-use Rattle.taking.specs.declared.Handled.{Handled}
+use Rattle.steps.specs.declared.Handled.{Handled}
 use Rattle.boundary.specs.declared.Header.{Header}
 use Rattle.boundary.specs.declared.Choices.{Choices}
 use Rattle.boundary.specs.declared.Answer.{Answer}

@@ -4,7 +4,7 @@ ghost use mathlib.Core.List.{List};
 ghost use Prim.Native.Nat.{ℕ};
 ghost use Rattle.settings.specs.Settings.{limited, numberOf};
 ghost use Rattle.waiting.specs.Records.{bit};
-ghost use Rattle.space.specs.Space.{bytes};
+ghost use Rattle.lengths.specs.Space.{bytes};
 ghost use Rattle.packets.specs.View.{packetOf, syncOf};
 ghost use Rattle.packets.specs.View.{announcementOf};
 ghost use Rattle.boundary.specs.Boundary.{receiverOf, headerOf, mergeOf, limitOf, settingsOf, packetIn, syncIn, announcedIn, bareOf, oneOf, twoOf, pairOf, sequenceOf, discoveredOf, toldOf, replyOf, polledOf, sweptOf, heardOf, mutedOf, clearedOf};
@@ -30,7 +30,7 @@ use sequences::SequenceNumbering;
 use settings::MergeChoice;
 use settings::Settings;
 use settings::SourceLimit;
-use taking::Handled;
+use steps::Handled;
 use waiting_calls::Waiting;
 
 // The counts and notes of every table.

@@ -9,9 +9,9 @@ use native.Mathlib.Omega.{arith}
 use lib.Dec.{leb, eqb}
 use lib.ListN.{length, length-append, length-map}
 use borrow.Author.Tests.{leb-true, leb-false, le-leb, lt-leb}
-use Rattle.table.specs.Cases.{split, clash, found, missing}
-use Rattle.table.specs.Table.{keep, any, length-keep, keep-all}
-use Rattle.table.specs.Place.{prefix, insertAt}
+use Rattle.laws.specs.Cases.{split, clash, found, missing}
+use Rattle.laws.specs.Table.{keep, any, length-keep, keep-all}
+use Rattle.laws.specs.Place.{prefix, insertAt}
 use Rattle.rules.specs.declared.Cid.{Cid}
 use Rattle.rules.specs.Cid.{same, same-refl, same-path}
 use Rattle.discovery.specs.Discovery.{Page, Source, Discovered, Announcement, lookup, drop-source, relisted, updated, in-place, sorted, complete, pageOf, extended, begun, Note, begin, extend, list, noted, noting, page-count, pages-held, capacity, most-universes, most-name, taken, overfull, arrived, cut-page, cut, ended, current, swept, Once, Rising, Proper-page, Proper-pages, Proper, All-proper, Ordered}

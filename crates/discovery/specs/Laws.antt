@@ -7,8 +7,8 @@ use mathlib.Core.Option.{Option, none, some}
 use mathlib.Core.List.{List, [], _∷_, _++_, map}
 use Prim.Native.Nat.{ℕ}
 use lib.Dec.{eqb}
-use Rattle.table.specs.Cases.{split, clash, found, missing}
-use Rattle.table.specs.Table.{keep, any, pass}
+use Rattle.laws.specs.Cases.{split, clash, found, missing}
+use Rattle.laws.specs.Table.{keep, any, pass}
 use Rattle.rules.specs.declared.Cid.{Cid}
 use Rattle.rules.specs.Cid.{same, same-refl, same-path, same-not}
 use Rattle.discovery.specs.Discovery.{Source, Discovered, Announcement, lookup, drop-source, relisted, updated, complete, extended, begun, Note, begin, extend, list, noted, noting, told, taken, cut, ended, current, swept, Once, Ordered}

@@ -5,7 +5,7 @@ use mathlib.Core.Option.{none, some}
 use mathlib.Core.List.{List, [], _∷_, map}
 use Prim.Native.Nat.{ℕ}
 use lib.ListN.{length}
-use Rattle.table.specs.Table.{keep, any}
+use Rattle.laws.specs.Table.{keep, any}
 use Rattle.discovery.specs.declared.PageAnswer.the-variants.{PagesFull}
 use Rattle.discovery.specs.Discovery.{Source, Discovered, Announcement, nothing-known, lookup, drop-source, relisted, updated, in-place, sorted, numbered, complete, extended, begun, noted, noting, page-count, pages-held, taken, arrived, too-long, swept}
 

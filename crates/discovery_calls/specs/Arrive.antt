@@ -10,9 +10,9 @@ use lib.Dec.{eqb}
 use lib.ListN.{length, take, drop, getD, length-take}
 use lib.Seq.{getD-take}
 use borrow.Author.Tests.{le-leb, lt-leb, lt-ltb, le-ltb}
-use Rattle.table.specs.Cases.{split, clash, missing}
-use Rattle.table.specs.Table.{keep, any}
-use Rattle.table.specs.Place.{prefix}
+use Rattle.laws.specs.Cases.{split, clash, missing}
+use Rattle.laws.specs.Table.{keep, any}
+use Rattle.laws.specs.Place.{prefix}
 use Rattle.rules.specs.declared.Cid.{Cid}
 use Rattle.rules.specs.Cid.{same, same-refl}
 use Rattle.discovery_calls.specs.declared.Discovery.{Discovery}

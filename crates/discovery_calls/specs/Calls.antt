@@ -10,9 +10,9 @@ use lib.Dec.{ltb}
 use lib.ListN.{length, take, drop, getD, set, length-take, length-set}
 use lib.Seq.{take-all, take-set-lt, getD-take}
 use borrow.Author.Tests.{ltb-true, ltb-false}
-use Rattle.table.specs.Cases.{split, clash, found}
-use Rattle.table.specs.Table.{any}
-use Rattle.table.specs.Place.{prefix, insertAt, removeAt, length-removeAt}
+use Rattle.laws.specs.Cases.{split, clash, found}
+use Rattle.laws.specs.Table.{any}
+use Rattle.laws.specs.Place.{prefix, insertAt, removeAt, length-removeAt}
 use Rattle.rules.specs.declared.Cid.{Cid}
 use Rattle.rules.specs.Cid.{same}
 use Rattle.discovery_calls.specs.declared.Discovery.{Discovery}

@@ -4,7 +4,7 @@ use mathlib.Core.List.{List}
 use Prim.Native.Nat.{ℕ}
 use denote.Ref.{RefT, now}
 use denote.Triple.Both.{Both}
-use Rattle.table.specs.Lent.{Part}
+use Rattle.laws.specs.Lent.{Part}
 use Rattle.rules.specs.declared.Cid.{Cid}
 use Rattle.discovery.specs.declared.PageAnswer.{PageAnswer}
 use Rattle.discovery.specs.Discovery.{Discovered, Announcement}

@@ -9,9 +9,9 @@ use native.Mathlib.Omega.{arith}
 use lib.Dec.{leb, eqb}
 use lib.ListN.{length, getD, set}
 use borrow.Author.Tests.{eqb-true, eq-eqb}
-use Rattle.table.specs.Cases.{split, clash, missing}
-use Rattle.table.specs.Table.{keep, any}
-use Rattle.table.specs.Place.{prefix, insertAt}
+use Rattle.laws.specs.Cases.{split, clash, missing}
+use Rattle.laws.specs.Table.{keep, any}
+use Rattle.laws.specs.Place.{prefix, insertAt}
 use Rattle.rules.specs.declared.Cid.{Cid}
 use Rattle.rules.specs.Cid.{same, same-refl, same-path}
 use Rattle.discovery.specs.Discovery.{Page, Source, Discovered, lookup, drop-source, updated, pages-held, capacity, cut-page, cut, ended, Ordered, Proper}

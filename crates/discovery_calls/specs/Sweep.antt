@@ -9,9 +9,9 @@ use lib.Dec.{eqb}
 use lib.ListN.{length, take, drop, getD, length-take}
 use lib.Seq.{getD-take}
 use borrow.Author.Tests.{eqb-true}
-use Rattle.table.specs.Cases.{split, clash}
-use Rattle.table.specs.Table.{keep, any}
-use Rattle.table.specs.Place.{prefix, prefix-stop}
+use Rattle.laws.specs.Cases.{split, clash}
+use Rattle.laws.specs.Table.{keep, any}
+use Rattle.laws.specs.Place.{prefix, prefix-stop}
 use Rattle.rules.specs.declared.Cid.{Cid}
 use Rattle.rules.specs.Cid.{same, same-path}
 use Rattle.rules.specs.Age.{aged}

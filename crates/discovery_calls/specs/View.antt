@@ -9,9 +9,9 @@ use lib.Dec.{eqb, ltb}
 use lib.ListN.{length, take, drop, getD, set, length-take}
 use lib.Seq.{take-nil}
 use borrow.Author.Tests.{eqb-true, eqb-false, ltb-true, ltb-false}
-use Rattle.table.specs.Cases.{split, clash}
-use Rattle.table.specs.Table.{keep, any}
-use Rattle.table.specs.Place.{prefix, removeAt}
+use Rattle.laws.specs.Cases.{split, clash}
+use Rattle.laws.specs.Table.{keep, any}
+use Rattle.laws.specs.Place.{prefix, removeAt}
 use Rattle.rules.specs.declared.Cid.{Cid}
 use Rattle.discovery_calls.specs.declared.Discovery.{Discovery}
 use Rattle.discovery.specs.Discovery.{Discovered, pages-held, nothing-known, capacity}

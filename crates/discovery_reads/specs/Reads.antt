@@ -9,9 +9,9 @@ use lib.Dec.{eqb, ltb}
 use lib.ListN.{length, take, drop, getD, length-take, length-drop, drop-of-length-le}
 use lib.Seq.{getD-take, drop-drop, take-take, take-all, take-nil}
 use borrow.Author.Tests.{ltb-true, ltb-false}
-use Rattle.table.specs.Cases.{split}
-use Rattle.table.specs.Table.{keep}
-use Rattle.table.specs.Arrays.{next}
+use Rattle.laws.specs.Cases.{split}
+use Rattle.laws.specs.Table.{keep}
+use Rattle.laws.specs.Arrays.{next}
 use Rattle.rules.specs.declared.Cid.{Cid}
 use Rattle.discovery_calls.specs.declared.Discovery.{Discovery}
 use Rattle.discovery_reads.specs.declared.SourceHead.{SourceHead}

@@ -3,7 +3,7 @@ ghost use mathlib.Core.Path.{_≡_};
 ghost use mathlib.Core.List.{List, []};
 ghost use Prim.Native.Nat.{ℕ, _+_, _≤_, _<_, min};
 ghost use lib.ListN.{length, take};
-ghost use Rattle.table.specs.Table.{keep};
+ghost use Rattle.laws.specs.Table.{keep};
 ghost use Rattle.discovery.specs.Discovery.{capacity};
 ghost use Rattle.discovery_rows.specs.Store.{pages-at};
 ghost use Rattle.discovery_rows.specs.Rows.{owned, total};

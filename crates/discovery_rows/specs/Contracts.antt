@@ -4,7 +4,7 @@ use mathlib.Core.List.{List}
 use Prim.Native.Nat.{ℕ}
 use denote.Ref.{now}
 use lib.ListN.{take}
-use Rattle.table.specs.Lent.{Part}
+use Rattle.laws.specs.Lent.{Part}
 use Rattle.discovery_rows.specs.Store.{Leaf}
 use Rattle.discovery_rows.specs.Rows.{leaves, Packs}
 

@@ -9,9 +9,9 @@ use lib.Dec.{leb, ltb, eqb}
 use lib.ListN.{length}
 use Rattle.discovery.specs.Kept.{count-least}
 use borrow.Author.Tests.{eqb-true, eqb-false, ltb-true, ltb-false, le-leb, lt-leb}
-use Rattle.table.specs.Cases.{split, clash}
-use Rattle.table.specs.Table.{keep, any}
-use Rattle.table.specs.Place.{prefix, insertAt}
+use Rattle.laws.specs.Cases.{split, clash}
+use Rattle.laws.specs.Table.{keep, any}
+use Rattle.laws.specs.Place.{prefix, insertAt}
 use Rattle.rules.specs.declared.Cid.{Cid}
 use Rattle.rules.specs.Cid.{same, same-refl}
 use Rattle.discovery.specs.Discovery.{Page, page-count, pages-held, cut-page}

@@ -8,9 +8,9 @@ use native.Mathlib.Omega.{arith}
 use native.Mathlib.Numerals.{add-one}
 use lib.ListN.{length, take, drop, getD, set, length-drop, length-set}
 use lib.Seq.{take-take, take-suc, take-suc-set, drop-set-lt, drop-drop, getD-drop, getD-take, getD-set-same}
-use Rattle.table.specs.Cases.{split}
-use Rattle.table.specs.Table.{keep}
-use Rattle.table.specs.Arrays.{next, untouched}
+use Rattle.laws.specs.Cases.{split}
+use Rattle.laws.specs.Table.{keep}
+use Rattle.laws.specs.Arrays.{next, untouched}
 
 module _ {A : Type 0} where
   -- an element written behind those already there

@@ -12,10 +12,10 @@ use lib.Dec.{ltb, eqb}
 use lib.ListN.{length, take, drop, getD, set, length-take, length-set}
 use native.Mathlib.Numerals.{add-one}
 use lib.Seq.{take-take, take-suc, take-suc-set, take-nil, take-at, drop-at, drop-drop, take-all}
-use Rattle.table.specs.Cases.{split}
-use Rattle.table.specs.Table.{keep}
-use Rattle.table.specs.Place.{append-map}
-use Rattle.table.specs.Arrays.{next}
+use Rattle.laws.specs.Cases.{split}
+use Rattle.laws.specs.Table.{keep}
+use Rattle.laws.specs.Place.{append-map}
+use Rattle.laws.specs.Arrays.{next}
 use Rattle.rules.specs.declared.Cid.{Cid}
 use Rattle.rules.specs.Age.{aged}
 use Rattle.discovery.specs.Discovery.{cut-page, most-universes, capacity}

@@ -7,7 +7,7 @@ use Prim.Native.Nat.{ℕ, zero, suc, _+_, _-_, _≤_, _<_}
 use native.Mathlib.Omega.{arith}
 use lib.ListN.{length, take, drop, length-take}
 use lib.Seq.{take-take, take-at, drop-at, drop-drop}
-use Rattle.table.specs.Place.{prefix, prefix-le, insertAt}
+use Rattle.laws.specs.Place.{prefix, prefix-le, insertAt}
 use Rattle.rules.specs.declared.Cid.{Cid}
 use Rattle.discovery.specs.Discovery.{most-universes, capacity}
 use Rattle.discovery_rows.specs.Store.{Leaf}

@@ -5,7 +5,7 @@ ghost use mathlib.Core.List.{_++_};
 ghost use Prim.Native.Nat.{_+_, _≤_};
 ghost use lib.Dec.{eqb};
 ghost use lib.ListN.{length, take, drop};
-ghost use Rattle.table.specs.Table.{keep};
+ghost use Rattle.laws.specs.Table.{keep};
 ghost use Rattle.discovery_rows.specs.Lent.{pool-length};
 use discovery::POOL;
 

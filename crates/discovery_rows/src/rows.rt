@@ -4,7 +4,7 @@ ghost use mathlib.Core.Bool.{not};
 ghost use mathlib.Core.List.{[], _∷_, _++_, map};
 ghost use Prim.Native.Nat.{suc, _+_, _-_, _≤_, _<_};
 ghost use lib.ListN.{length, take, getD};
-ghost use Rattle.table.specs.Place.{prefix, insertAt, removeAt};
+ghost use Rattle.laws.specs.Place.{prefix, insertAt, removeAt};
 ghost use Rattle.discovery.specs.Discovery.{capacity, most-name};
 ghost use Rattle.discovery_rows.specs.Rows.{owned, larger, in-turn, turned-row, listed-row, old-row};
 use crate::HeadRows;

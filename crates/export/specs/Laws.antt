@@ -8,7 +8,7 @@ use Rattle.settings.specs.declared.Settings.{Settings}
 use Rattle.model.specs.State.{State}
 use Rattle.model.specs.Packet.{Packet}
 use Rattle.receiver.specs.declared.Receiver.{Receiver}
-use Rattle.taking.specs.declared.Handled.{Handled}
+use Rattle.steps.specs.declared.Handled.{Handled}
 use Rattle.receiver.specs.View.{Memory, Kept, Does, Begins, Becomes}
 use Rattle.handlers.specs.View.{Steps}
 use Rattle.boundary.specs.declared.Header.{Header}

@@ -8,8 +8,8 @@ ghost use Rattle.model.specs.Packet.{data-packet, sync-packet, discovery-packet
 ghost use Rattle.model.specs.Answer.{pollNumber, pollValues, expiryNumber, expiryValues, listenNumber, listenValues, muteNumber, muteValues, clearNumber, clearValues};
 ghost use Rattle.model.specs.State.{listens};
 ghost use Rattle.model.specs.Calls.{poll-call, expiry-call, listen-call, mute-call, clear-call, clear-all-call, reset-call};
-ghost use Rattle.space.specs.Space.{bytes};
-ghost use Rattle.table.specs.Lent.{untouched};
+ghost use Rattle.lengths.specs.Space.{bytes};
+ghost use Rattle.laws.specs.Lent.{untouched};
 ghost use Rattle.receiver.specs.View.{Memory, with-listened-rows, stateOf, KeptWaiting, KeptDiscovery, Kept, Begins, Becomes};
 ghost use Rattle.receiver.specs.Lent.{sequences-in, lent-in, lent, sequences-lent, waiting-lent, listened-lent, discovery-lent};
 ghost use Rattle.boundary.specs.Boundary.{receiverOf, mergeOf, settingsOf, packetIn, syncIn, announcedIn};

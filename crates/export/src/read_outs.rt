@@ -32,11 +32,7 @@ use waiting_store::EntryRows;
 
 // A pair of the data table, by its place from 0.
 #[no_mangle]
-pub extern "C" fn tamburelvi_data_pair(
-    header: Header,
-    data_pairs: &PairRows,
-    at: usize,
-) -> PairRead
+pub extern "C" fn tamburelvi_data_pair(header: Header, data_pairs: &PairRows, at: usize) -> PairRead
     requires { ⌜ length (now «data_pairs») ≡ 1024 ⌝ }
     ensures { λ r. ⌜ pairRead r
         ≡ getD (pairsOf (receiverOf header .sequences .«data» .table .count) (now («data_pairs» .entry))) at (pairOf []) ⌝ }
@@ -46,11 +42,7 @@ pub extern "C" fn tamburelvi_data_pair(
 
 // A pair of the synchronisation table; its universe is the address.
 #[no_mangle]
-pub extern "C" fn tamburelvi_sync_pair(
-    header: Header,
-    sync_pairs: &PairRows,
-    at: usize,
-) -> PairRead
+pub extern "C" fn tamburelvi_sync_pair(header: Header, sync_pairs: &PairRows, at: usize) -> PairRead
     requires { ⌜ length (now «sync_pairs») ≡ 1024 ⌝ }
     ensures { λ r. ⌜ pairRead r ≡ getD (pairsOf (receiverOf header .sequences .sync .table .count) (now («sync_pairs» .entry))) at (pairOf []) ⌝ }
 {
@@ -106,11 +98,7 @@ pub extern "C" fn tamburelvi_waiting(header: Header, rows: &EntryRows, at: usize
 
 // Where its values lie in the store.
 #[no_mangle]
-pub extern "C" fn tamburelvi_waiting_values(
-    header: Header,
-    rows: &EntryRows,
-    at: usize,
-) -> PartRead
+pub extern "C" fn tamburelvi_waiting_values(header: Header, rows: &EntryRows, at: usize) -> PartRead
     requires { ⌜ length (now rows) ≡ 64 ⌝ }
     ensures { λ r. ⌜ ((store : List ℕ) →
         take (r .count) (drop (r .start) store)

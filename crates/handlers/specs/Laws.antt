@@ -5,7 +5,7 @@ use mathlib.Core.Bool.{Bool, true, false}
 use mathlib.Core.Option.{Option}
 use mathlib.Core.List.{List, []}
 use Prim.Native.Nat.{ℕ}
-use Rattle.table.specs.Cases.{missing}
+use Rattle.laws.specs.Cases.{missing}
 use Rattle.rules.specs.Answer.{first-of}
 use Rattle.settings.specs.declared.Settings.{Settings}
 use Rattle.waiting.specs.Laws.{over-none}
@@ -16,7 +16,7 @@ use Rattle.model.specs.Packet.{Packet, too-long}
 use Rattle.model.specs.Step.{too-short}
 use Rattle.receiver.specs.declared.Receiver.{Receiver}
 use Rattle.receiver.specs.View.{Memory, spaceIn, Kept}
-use Rattle.taking.specs.View.{Opens, Takes}
+use Rattle.steps.specs.View.{Opens, Takes}
 use Rattle.handlers.specs.View.{Steps}
 
 module _ (S : Settings) (now : ℕ) (p : Packet) (r : Receiver) (m : Memory) (out : List ℕ) (k : Kept r m) (long : Option ℕ) (l : too-long p ≡ long)

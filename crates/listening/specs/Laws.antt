@@ -12,10 +12,10 @@ use lib.Dec.{ltb}
 use lib.ListN.{length, take, drop, getD, length-take}
 use lib.Seq.{drop-cons, getD-take}
 use borrow.Author.Tests.{lt-ltb, le-ltb}
-use Rattle.table.specs.Cases.{found}
-use Rattle.table.specs.Order.{ℕ-order}
-use Rattle.table.specs.Table.{find, store, remove, find-key, store-known, ascending-store, ascending-remove, length-store-new, length-store-known}
-use Rattle.table.specs.Place.{place, insertAt, removeAt, prefix-le, present, absent, absent-end, found-place, store-insert, remove-place}
+use Rattle.laws.specs.Cases.{found}
+use Rattle.laws.specs.Order.{ℕ-order}
+use Rattle.laws.specs.Table.{find, store, remove, find-key, store-known, ascending-store, ascending-remove, length-store-new, length-store-known}
+use Rattle.laws.specs.Place.{place, insertAt, removeAt, prefix-le, present, absent, absent-end, found-place, store-insert, remove-place}
 use Rattle.rules.specs.Universe.{legal}
 use Rattle.model.specs.declared.ListenAnswer.the-variants as listen
 use Rattle.model.specs.declared.MuteAnswer.the-variants as muting

@@ -7,8 +7,8 @@ use mathlib.Core.List.{List}
 use Prim.Native.Nat.{ℕ, _≤_, _<_}
 use lib.Dec.{ltb}
 use lib.ListN.{length, take}
-use Rattle.table.specs.Table.{Ascending, find, store}
-use Rattle.table.specs.Place.{place}
+use Rattle.laws.specs.Table.{Ascending, find, store}
+use Rattle.laws.specs.Place.{place}
 use Rattle.model.specs.declared.ListenAnswer.the-variants as listen
 use Rattle.model.specs.declared.MuteAnswer.the-variants as muting
 use Rattle.model.specs.State.{itself, fresh}

@@ -4,7 +4,7 @@ ghost use mathlib.Core.List.{[], _∷_};
 ghost use Prim.Native.Nat.{_+_, _-_, _≤_, _<_};
 ghost use lib.ListN.{length, take};
 ghost use lib.Dec.{ltb};
-ghost use Rattle.table.specs.Place.{place, insertAt, removeAt};
+ghost use Rattle.laws.specs.Place.{place, insertAt, removeAt};
 ghost use Rattle.model.specs.State.{itself, listens};
 ghost use Rattle.listening.specs.View.{Kept, listenedOf, listened, spotOf, illegalOf, Stands, Fresh, Joins, Listens, Mutes};
 ghost use Rattle.model.specs.Step.{most-listened, illegal, joined-by};

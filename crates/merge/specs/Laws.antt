@@ -11,8 +11,8 @@ use native.Mathlib.Nat.{max-comm}
 use lib.Dec.{ltb}
 use lib.ListN.{length}
 use borrow.Author.Tests.{eq-eqb}
-use Rattle.table.specs.Cases.{split}
-use Rattle.table.specs.Order.{ℕ-order, tri, asym}
+use Rattle.laws.specs.Cases.{split}
+use Rattle.laws.specs.Order.{ℕ-order, tri, asym}
 use Rattle.merge.specs.Merge.{Dmx, same-start, mergeable, highest, blended, joined, htp-merge, preferred, most-values}
 
 -- ── the larger value at each place ──

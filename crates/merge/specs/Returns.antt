@@ -12,7 +12,7 @@ use native.Mathlib.Nat.{zero-add}
 use lib.ListN.{length, take, drop, getD, set, take-append-drop}
 use lib.Seq.{paste, paste-suc, length-take-le}
 use borrow.Author.Tests.{lt-ltb, le-ltb, eq-eqb, ne-eqb}
-use Rattle.table.specs.Parts.{pasted, pasted-append, pasted-front}
+use Rattle.laws.specs.Parts.{pasted, pasted-append, pasted-front}
 use Rattle.merge.specs.declared.DmxData.{DmxData}
 use Rattle.merge.specs.declared.HtpAnswer.{HtpAnswer}
 use Rattle.merge.specs.declared.HtpAnswer.the-variants as htp

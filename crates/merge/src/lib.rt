@@ -4,7 +4,7 @@ ghost use mathlib.Core.Bool.{_||_};
 ghost use mathlib.Core.List.{[]};
 ghost use Prim.Native.Nat.{_+_, _≤_, max};
 ghost use lib.ListN.{length};
-ghost use Rattle.table.specs.Parts.{pasted};
+ghost use Rattle.laws.specs.Parts.{pasted};
 ghost use Rattle.merge.specs.Merge.{mergeable, highest, blended, htp-answer, htp-output, choice, chosen};
 ghost use Rattle.merge.specs.Merge.{htpNumberOf, htpValuesOf, htp-told, choiceNumberOf, choiceValuesOf, choice-told};
 ghost use Rattle.merge.specs.Views.{dmx};

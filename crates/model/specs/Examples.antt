@@ -6,8 +6,8 @@ use mathlib.Core.Option.{Option, none, some}
 use mathlib.Core.List.{List, [], _∷_, _++_, map}
 use Prim.Native.Nat.{ℕ}
 use lib.ListN.{length}
-use Rattle.table.specs.Order.{before-by}
-use Rattle.table.specs.Table.{keep, any, find, store, remove}
+use Rattle.laws.specs.Order.{before-by}
+use Rattle.laws.specs.Table.{keep, any, find, store, remove}
 use Rattle.rules.specs.declared.Cid.{Cid}
 use Rattle.rules.specs.Bytes.{bigEndian}
 use Rattle.rules.specs.Answer.{Value, number, source}

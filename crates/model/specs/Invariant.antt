@@ -11,9 +11,9 @@ use native.Mathlib.Omega.{arith}
 use lib.Dec.{ltb, leb, eqb}
 use lib.ListN.{length}
 use borrow.Author.Tests.{ltb-false}
-use Rattle.table.specs.Cases.{split, found, clash, missing}
-use Rattle.table.specs.Order.{ℕ-order, keyed, tri}
-use Rattle.table.specs.Table.{any, find, store, remove, Ascending, find-store-other, ascending-store, ascending-remove, length-remove, find-remove-other, find-remove-same}
+use Rattle.laws.specs.Cases.{split, found, clash, missing}
+use Rattle.laws.specs.Order.{ℕ-order, keyed, tri}
+use Rattle.laws.specs.Table.{any, find, store, remove, Ascending, find-store-other, ascending-store, ascending-remove, length-remove, find-remove-other, find-remove-same}
 use Rattle.rules.specs.Universe.{legal}
 use Rattle.rules.specs.Age.{data-loss}
 use Rattle.settings.specs.declared.Settings.{Settings}

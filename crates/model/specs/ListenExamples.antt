@@ -3,7 +3,7 @@
 use mathlib.Core.Path.{_≡_, refl}
 use mathlib.Core.List.{List, [], _∷_}
 use Prim.Native.Nat.{ℕ, zero, suc}
-use Rattle.table.specs.Table.{find, store}
+use Rattle.laws.specs.Table.{find, store}
 use Rattle.model.specs.declared.ListenAnswer.the-variants as listen
 use Rattle.model.specs.State.{fresh}
 use Rattle.model.specs.Step.{illegal, joined-by, listen-all}

@@ -6,7 +6,7 @@ use mathlib.Core.Option.{Option, none, some}
 use mathlib.Core.List.{List, [], _∷_}
 use Prim.Native.Nat.{ℕ}
 use lib.Dec.{ltb}
-use Rattle.table.specs.Table.{find}
+use Rattle.laws.specs.Table.{find}
 use Rattle.pairs.specs.Table as pairs
 use Rattle.merge.specs.Merge.{Dmx}
 use Rattle.discovery.specs.Discovery.{Discovered, nothing-known}

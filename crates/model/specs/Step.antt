@@ -7,7 +7,7 @@ use mathlib.Core.List.{List, [], _∷_}
 use Prim.Native.Nat.{ℕ}
 use lib.Dec.{ltb, leb, eqb}
 use lib.ListN.{length}
-use Rattle.table.specs.Table.{store}
+use Rattle.laws.specs.Table.{store}
 use Rattle.rules.specs.declared.Cid.{Cid}
 use Rattle.rules.specs.Universe.{legal}
 use Rattle.rules.specs.Answer.{first-of}

@@ -8,9 +8,9 @@ use Prim.Native.Nat.{ℕ, _≤_}
 use native.Mathlib.Omega.{arith}
 use lib.Dec.{ltb}
 use borrow.Author.Tests.{ltb-false, le-ltb}
-use Rattle.table.specs.Cases.{split, clash, missing}
-use Rattle.table.specs.Order.{Order, tri, keyed}
-use Rattle.table.specs.Table.{keep, any, find, store, remove, Ascending, other-than, find-key, remove-keep}
+use Rattle.laws.specs.Cases.{split, clash, missing}
+use Rattle.laws.specs.Order.{Order, tri, keyed}
+use Rattle.laws.specs.Table.{keep, any, find, store, remove, Ascending, other-than, find-key, remove-keep}
 use Rattle.rules.specs.declared.Cid.{Cid}
 use Rattle.rules.specs.Cid.{same, before, cid-order, same-refl}
 use Rattle.pairs.specs.declared.Pair.{Pair}

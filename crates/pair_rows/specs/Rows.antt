@@ -10,11 +10,11 @@ use native.Mathlib.Omega.{arith}
 use lib.ListN.{length, take, drop, getD, length-take, length-map}
 use lib.Seq.{getD-take}
 use borrow.Author.Tests.{eqb-true, eq-eqb, le-ltb, leb-false, lt-leb}
-use Rattle.table.specs.Cases.{split, clash}
-use Rattle.table.specs.Order.{Order, before-by}
-use Rattle.table.specs.Table.{any, find}
-use Rattle.table.specs.Place.{place, prefix, absent, absent-end, present, getD-map}
-use Rattle.table.specs.Arrays.{next}
+use Rattle.laws.specs.Cases.{split, clash}
+use Rattle.laws.specs.Order.{Order, before-by}
+use Rattle.laws.specs.Table.{any, find}
+use Rattle.laws.specs.Place.{place, prefix, absent, absent-end, present, getD-map}
+use Rattle.laws.specs.Arrays.{next}
 use Rattle.rules.specs.declared.Cid.{Cid}
 use Rattle.rules.specs.Cid.{same, same-refl, same-path}
 use Rattle.rules.specs.Age.{expired}

@@ -8,10 +8,10 @@ use Prim.Native.Nat.{ℕ, _+_, _-_, _<_}
 use native.Mathlib.Omega.{arith}
 use lib.ListN.{take, getD, set, length-take, length-map}
 use lib.Seq.{getD-take}
-use Rattle.table.specs.Order.{Order}
-use Rattle.table.specs.Table.{find, store, remove}
-use Rattle.table.specs.Place.{place, insertAt, removeAt, store-insert, store-replace, remove-place, insertAt-map, removeAt-map, set-map, getD-map, found-place}
-use Rattle.table.specs.Arrays.{replace}
+use Rattle.laws.specs.Order.{Order}
+use Rattle.laws.specs.Table.{find, store, remove}
+use Rattle.laws.specs.Place.{place, insertAt, removeAt, store-insert, store-replace, remove-place, insertAt-map, removeAt-map, set-map, getD-map, found-place}
+use Rattle.laws.specs.Arrays.{replace}
 use Rattle.pair_rows.specs.declared.Found.the-variants.{At, Nothing}
 use Rattle.pair_rows.specs.View.{Rows, placed}
 

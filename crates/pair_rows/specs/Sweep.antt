@@ -11,11 +11,11 @@ use lib.Dec.{ltb}
 use lib.ListN.{length, take, drop, getD, set, take-append-drop, length-append, length-take, length-drop, drop-of-length-le}
 use lib.Seq.{drop-drop, set-getD}
 use borrow.Author.Tests.{ltb-false, leb-false, lt-leb}
-use Rattle.table.specs.Cases.{split, clash, found}
-use Rattle.table.specs.Order.{tri, asym, beyond}
-use Rattle.table.specs.Table.{keep, any, Ascending, Under, keep-map, length-keep}
-use Rattle.table.specs.Place.{prefix, drop-map, append-map}
-use Rattle.table.specs.Arrays.{next, untouched, compact-keep, compact-drop}
+use Rattle.laws.specs.Cases.{split, clash, found}
+use Rattle.laws.specs.Order.{tri, asym, beyond}
+use Rattle.laws.specs.Table.{keep, any, Ascending, Under, keep-map, length-keep}
+use Rattle.laws.specs.Place.{prefix, drop-map, append-map}
+use Rattle.laws.specs.Arrays.{next, untouched, compact-keep, compact-drop}
 use Rattle.rules.specs.declared.Cid.{Cid}
 use Rattle.rules.specs.Cid.{same, before, cid-order, same-refl, same-not}
 use Rattle.rules.specs.Age.{expired}

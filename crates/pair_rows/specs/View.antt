@@ -7,8 +7,8 @@ use mathlib.Core.List.{List, [], _∷_, map}
 use Prim.Native.Nat.{ℕ, _≤_, _/_, _%_, min}
 use lib.Dec.{ltb, eqb}
 use lib.ListN.{length, take, getD}
-use Rattle.table.specs.Table.{any, find, Ascending}
-use Rattle.table.specs.Place.{place}
+use Rattle.laws.specs.Table.{any, find, Ascending}
+use Rattle.laws.specs.Place.{place}
 use Rattle.rules.specs.declared.Cid.{Cid}
 use Rattle.rules.specs.Cid.{same, before}
 use Rattle.rules.specs.Age.{expired}

@@ -3,7 +3,7 @@ ghost use mathlib.Core.Path.{_≡_};
 ghost use mathlib.Core.List.{[]};
 ghost use Prim.Native.Nat.{_+_, _-_, _≤_, _<_};
 ghost use lib.ListN.{length, take, getD, set};
-ghost use Rattle.table.specs.Place.{insertAt, removeAt};
+ghost use Rattle.laws.specs.Place.{insertAt, removeAt};
 ghost use Rattle.pairs.specs.Table.{capacity};
 ghost use Rattle.pair_rows.specs.View.{cidOf, pairOf};
 use crate::PairRow;

@@ -2,7 +2,7 @@
 ghost use mathlib.Core.Path.{_≡_};
 ghost use Prim.Native.Nat.{_+_, _≤_, min};
 ghost use lib.ListN.{length, take, drop};
-ghost use Rattle.table.specs.Place.{place, prefix};
+ghost use Rattle.laws.specs.Place.{place, prefix};
 ghost use Rattle.rules.specs.Cid.{before};
 ghost use Rattle.pairs.specs.Table.{capacity, key, keyOf, key-before, itself, has};
 ghost use Rattle.pair_rows.specs.View.{pairsOf, sourcesOf, same-key, lower, last-reading, sourceAt, row-before};

@@ -3,7 +3,7 @@ ghost use mathlib.Core.Path.{_≡_};
 ghost use mathlib.Core.Bool.{not};
 ghost use Prim.Native.Nat.{_≤_};
 ghost use lib.ListN.{length, take, drop};
-ghost use Rattle.table.specs.Table.{keep};
+ghost use Rattle.laws.specs.Table.{keep};
 ghost use Rattle.pairs.specs.Table.{capacity, has, live, lowest, last-noted, noted};
 ghost use Rattle.pair_rows.specs.View.{pairsOf, sourcesOf, lonely, starts, lapsed, noteOf, Walkable};
 use crate::PairRows;

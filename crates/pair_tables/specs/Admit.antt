@@ -10,8 +10,8 @@ use native.Mathlib.Omega.{arith}
 use lib.Dec.{leb}
 use lib.ListN.{length}
 use borrow.Author.Tests.{lt-leb, le-leb}
-use Rattle.table.specs.Cases.{split, clash, found}
-use Rattle.table.specs.Table.{keep, find, store, Ascending, keep-all, find-key, store-known}
+use Rattle.laws.specs.Cases.{split, clash, found}
+use Rattle.laws.specs.Table.{keep, find, store, Ascending, keep-all, find-key, store-known}
 use Rattle.rules.specs.declared.Cid.{Cid}
 use Rattle.rules.specs.Cid.{before, cid-order}
 use Rattle.rules.specs.Age.{expired}

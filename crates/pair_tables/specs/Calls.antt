@@ -9,8 +9,8 @@ use Prim.Native.Nat.{ℕ, _+_, _-_, _≤_, _<_, min}
 use native.Mathlib.Omega.{arith}
 use lib.ListN.{length, take, length-take, length-map}
 use borrow.Author.Tests.{le-leb, lt-leb}
-use Rattle.table.specs.Cases.{split, clash}
-use Rattle.table.specs.Table.{keep, find, store, remove}
+use Rattle.laws.specs.Cases.{split, clash}
+use Rattle.laws.specs.Table.{keep, find, store, remove}
 use Rattle.rules.specs.declared.Cid.{Cid}
 use Rattle.rules.specs.Cid.{before}
 use Rattle.rules.specs.Age.{expired}

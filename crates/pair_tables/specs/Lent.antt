@@ -1,7 +1,7 @@
 -- The two lent parts of a table in a contract, its pair rows and its source rows: the table that a call finds, and what it leaves.
 -- Assumes nothing.
 use denote.Ref.{now}
-use Rattle.table.specs.Lent.{Part}
+use Rattle.laws.specs.Lent.{Part}
 use Rattle.pairs.specs.Table.{Table}
 use Rattle.pair_rows.specs.View.{Rows}
 use Rattle.pair_tables.specs.declared.PairTable.{PairTable}

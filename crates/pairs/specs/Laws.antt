@@ -10,11 +10,11 @@ use native.Mathlib.Omega.{arith}
 use lib.Dec.{leb}
 use lib.ListN.{length}
 use borrow.Author.Tests.{leb-false, lt-leb}
-use Rattle.table.specs.Cases.{split, clash, found, missing}
-use Rattle.table.specs.Order.{tri, keyed}
-use Rattle.table.specs.Table.{keep, any, find, store, remove, Ascending, Under, pass, other-than, ext, keep-idem, keep-all, length-keep, length-remove}
-use Rattle.table.specs.Table.{find-store-same, find-store-other, find-keep, find-remove-other, find-remove-same, remove-absent, remove-keep}
-use Rattle.table.specs.Table.{ascending-store, ascending-keep, ascending-remove, length-store-new, length-store-known, store-store, remove-store, remove-remove, keep-store, keep-remove}
+use Rattle.laws.specs.Cases.{split, clash, found, missing}
+use Rattle.laws.specs.Order.{tri, keyed}
+use Rattle.laws.specs.Table.{keep, any, find, store, remove, Ascending, Under, pass, other-than, ext, keep-idem, keep-all, length-keep, length-remove}
+use Rattle.laws.specs.Table.{find-store-same, find-store-other, find-keep, find-remove-other, find-remove-same, remove-absent, remove-keep}
+use Rattle.laws.specs.Table.{ascending-store, ascending-keep, ascending-remove, length-store-new, length-store-known, store-store, remove-store, remove-remove, keep-store, keep-remove}
 use Rattle.rules.specs.declared.Cid.{Cid}
 use Rattle.rules.specs.Cid.{same, before, cid-order, same-refl, same-path, same-not}
 use Rattle.rules.specs.Age.{expired}

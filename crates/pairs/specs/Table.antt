@@ -7,8 +7,8 @@ use mathlib.Core.List.{List, [], _∷_}
 use Prim.Native.Nat.{ℕ, _≤_}
 use lib.Dec.{ltb, leb}
 use lib.ListN.{length}
-use Rattle.table.specs.Order.{Order, ℕ-order, before-by, order-by}
-use Rattle.table.specs.Table.{keep, any, find, store, remove, Ascending}
+use Rattle.laws.specs.Order.{Order, ℕ-order, before-by, order-by}
+use Rattle.laws.specs.Table.{keep, any, find, store, remove, Ascending}
 use Rattle.rules.specs.declared.Cid.{Cid}
 use Rattle.rules.specs.Cid.{same, before, cid-order}
 use Rattle.rules.specs.Age.{expired}

@@ -9,9 +9,9 @@ use native.Mathlib.Omega.{arith}
 use lib.Dec.{leb}
 use lib.ListN.{length}
 use borrow.Author.Tests.{lt-leb, le-leb}
-use Rattle.table.specs.Cases.{split}
-use Rattle.table.specs.Order.{before-by}
-use Rattle.table.specs.Table.{any, find, remove}
+use Rattle.laws.specs.Cases.{split}
+use Rattle.laws.specs.Order.{before-by}
+use Rattle.laws.specs.Table.{any, find, remove}
 use Rattle.rules.specs.declared.Cid.{Cid}
 use Rattle.settings.specs.declared.SourceLimit.{SourceLimit}
 use Rattle.settings.specs.declared.SourceLimit.the-variants.{AtMost}

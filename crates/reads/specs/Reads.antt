@@ -9,8 +9,8 @@ use lib.Dec.{ltb}
 use lib.ListN.{length, take, drop, getD, replicate, length-take, drop-of-length-le}
 use lib.Seq.{getD-take, take-all}
 use borrow.Author.Tests.{ltb-true, ltb-false}
-use Rattle.table.specs.Cases.{split}
-use Rattle.table.specs.Place.{getD-map}
+use Rattle.laws.specs.Cases.{split}
+use Rattle.laws.specs.Place.{getD-map}
 use Rattle.rules.specs.declared.Cid.{Cid}
 use Rattle.pairs.specs.declared.Pair.{Pair}
 use Rattle.pair_rows.specs.View.{cidOf, pairOf}

@@ -248,14 +248,7 @@ pub fn source_at(header: Header, sources: &HeadRows, mark: u64, at: usize) -> So
 }
 
 // The page of this source, by its place among the source's pages; where there are not so many, the place is the number of pages, and the rest is zeros.
-pub fn page_at(
-    header: Header,
-    pages: &PageRows,
-    mark: u64,
-    hi: u64,
-    lo: u64,
-    at: usize,
-) -> PageRead
+pub fn page_at(header: Header, pages: &PageRows, mark: u64, hi: u64, lo: u64, at: usize) -> PageRead
     requires { ⌜ length (now pages) ≡ 64 ⌝ }
     ensures placed { λ r. ⌜ ((universes : List ℕ) →
         PageAt mark (record { hi = hi; lo = lo }) at (r .place) (receiverOf header .discovery) (now (pages .entry)) universes) ⌝ }

@@ -8,7 +8,7 @@ use mathlib.Core.List.{List}
 use Prim.Native.Nat.{ℕ, _≤_}
 use native.Mathlib.Omega.{arith}
 use lib.ListN.{length, length-take}
-use Rattle.table.specs.Cases.{split, clash}
+use Rattle.laws.specs.Cases.{split, clash}
 use Rattle.rules.specs.declared.Cid.{Cid}
 use Rattle.rules.specs.Age.{data-loss}
 use Rattle.rules.specs.Universe.{legal}
@@ -33,7 +33,7 @@ use Rattle.discovery_calls.specs.declared.Discovery.{Discovery}
 use Rattle.discovery.specs.Discovery.{swept}
 use Rattle.discovery_calls.specs.View.{Holds, Emptied}
 use Rattle.discovery_rows.specs.Lent as pool
-use Rattle.space.specs.Space.{bytes}
+use Rattle.lengths.specs.Space.{bytes}
 use Rattle.model.specs.declared.PollAnswer.the-variants as polling
 use Rattle.model.specs.declared.ExpiryAnswer.the-variants as expiry
 use Rattle.model.specs.declared.ListenAnswer.{ListenAnswer}
@@ -45,11 +45,11 @@ use Rattle.model.specs.Answer.{pollNumber, expiryNumber, listenNumber, muteNumb
 use Rattle.model.specs.State.{State, listens}
 use Rattle.model.specs.Step.{short, waiting-bytes, page-bytes, poll, with-waiting, with-listened, with-discovered}
 use Rattle.model.specs.Calls.{polled-by, poll-call, expiry-call, listen-call, muted, mute-call, clear-call, clear-all-call, reset-call}
-use Rattle.steps.specs.View.{Polls}
-use Rattle.steps.specs.Laws.{refused-list}
+use Rattle.arrivals.specs.View.{Polls}
+use Rattle.arrivals.specs.Laws.{refused-list}
 use Rattle.receiver.specs.declared.Receiver.{Receiver}
 use Rattle.receiver.specs.View.{Memory, sequencesIn, with-sequence-rows, with-waiting-rows, with-listened-rows, with-discovery-rows, stateOf, Kept, leaves-all, Begins, Does, Becomes}
-use Rattle.space.specs.Finds.{room-for}
+use Rattle.lengths.specs.Finds.{room-for}
 
 -- ── a fresh receiver ──
 pub begins : (q : SequenceNumbering) (w : Waiting) (l : Listened) (d : Discovery) (m : Memory) → sequences.Emptied q → Empty (w .count) → Fresh l (m .heard) → Emptied d

@@ -4,7 +4,7 @@ use mathlib.Core.List.{List}
 use Prim.Native.Nat.{ℕ}
 use denote.Ref.{RefT, now}
 use denote.Triple.Both.{Both}
-use Rattle.table.specs.Lent.{Part}
+use Rattle.laws.specs.Lent.{Part}
 use Rattle.pair_rows.specs.View.{Rows}
 use Rattle.sequences.specs.View as sequences
 use Rattle.receiver.specs.View.{Memory, memory, with-sequence-rows, with-sync-rows, with-waiting-rows, with-listened-rows, with-discovery-rows}

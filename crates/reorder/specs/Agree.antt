@@ -11,9 +11,9 @@ use lib.Dec.{ltb, leb, eqb}
 use lib.ListN.{length}
 use lib.IntN.{ℤ}
 use borrow.Author.Tests.{eqb-true, eqb-false, le-ltb, lt-leb}
-use Rattle.table.specs.Cases.{split, found, clash, missing}
-use Rattle.table.specs.Order.{ℕ-order, tri, keyed, Order}
-use Rattle.table.specs.Table.{find, store, Ascending, find-key, store-known, find-under, under-trans, find-store-same, find-store-other, ascending-store, length-store-new}
+use Rattle.laws.specs.Cases.{split, found, clash, missing}
+use Rattle.laws.specs.Order.{ℕ-order, tri, keyed, Order}
+use Rattle.laws.specs.Table.{find, store, Ascending, find-key, store-known, find-under, under-trans, find-store-same, find-store-other, ascending-store, length-store-new}
 use Rattle.rules.specs.declared.Cid.{Cid}
 use Rattle.rules.specs.Cid.{same, before, cid-order, same-path}
 use Rattle.rules.specs.Universe.{legal}

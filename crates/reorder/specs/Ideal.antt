@@ -11,8 +11,8 @@ use native.Mathlib.Omega.{arith}
 use lib.Dec.{ltb, eqb}
 use lib.ListN.{length}
 use borrow.Author.Tests.{eqb-true, eqb-false}
-use Rattle.table.specs.Cases.{split, found}
-use Rattle.table.specs.Table.{keep, find-remove-other}
+use Rattle.laws.specs.Cases.{split, found}
+use Rattle.laws.specs.Table.{keep, find-remove-other}
 use Rattle.rules.specs.declared.Cid.{Cid}
 use Rattle.settings.specs.declared.Settings.{Settings}
 use Rattle.pairs.specs.declared.Pair.{Pair}

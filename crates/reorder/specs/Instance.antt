@@ -8,8 +8,8 @@ use mathlib.Core.List.{List, [], _∷_, map}
 use Prim.Native.Nat.{ℕ, zero, suc, _≤_, _<_}
 use native.Mathlib.Omega.{arith}
 use lib.ListN.{length, getElem?}
-use Rattle.table.specs.Order.{before-by}
-use Rattle.table.specs.Table.{keep, any, find, store, remove}
+use Rattle.laws.specs.Order.{before-by}
+use Rattle.laws.specs.Table.{keep, any, find, store, remove}
 use Rattle.rules.specs.declared.Cid.{Cid}
 use Rattle.rules.specs.Bytes.{bigEndian}
 use Rattle.settings.specs.declared.Settings.{Settings}

@@ -10,9 +10,9 @@ use native.Mathlib.Omega.{arith}
 use lib.Dec.{leb}
 use lib.ListN.{length}
 use borrow.Author.Tests.{lt-leb}
-use Rattle.table.specs.Cases.{split, found, clash}
-use Rattle.table.specs.Order.{Order, tri, keyed}
-use Rattle.table.specs.Table.{find, store, remove, keep, Ascending, find-under, under-trans, find-store-same, find-store-other, ascending-store, length-store-new, remove-keep, other-than}
+use Rattle.laws.specs.Cases.{split, found, clash}
+use Rattle.laws.specs.Order.{Order, tri, keyed}
+use Rattle.laws.specs.Table.{find, store, remove, keep, Ascending, find-under, under-trans, find-store-same, find-store-other, ascending-store, length-store-new, remove-keep, other-than}
 use Rattle.rules.specs.declared.Cid.{Cid}
 use Rattle.rules.specs.Cid.{before, cid-order, same-path}
 use Rattle.rules.specs.Cid as cid

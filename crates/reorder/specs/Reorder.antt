@@ -9,7 +9,7 @@ use Prim.Native.Nat.{ℕ, zero, suc, _+_, _≤_, _<_}
 use native.Mathlib.Omega.{arith}
 use lib.ListN.{length, getElem?}
 use lib.Dec.{eqb, eqb·zero-suc, eqb·suc-zero, eqb·suc-suc}
-use Rattle.table.specs.Cases.{found}
+use Rattle.laws.specs.Cases.{found}
 use Rattle.reorder.specs.Demand.{At, count, Picks, Reordering, MovedPast}
 
 -- The machine: one step takes a packet and gives the state that follows and an answer.

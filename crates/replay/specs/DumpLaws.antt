@@ -6,7 +6,7 @@ use Prim.Native.Nat.{ℕ, zero, suc, _+_, _≤_, _<_}
 use native.Mathlib.Omega.{arith}
 use lib.ListN.{length, take, drop, getD, length-take}
 use lib.Seq.{drop-append-le}
-use Rattle.table.specs.Place.{append-map}
+use Rattle.laws.specs.Place.{append-map}
 use Rattle.rules.specs.declared.Cid.{Cid}
 use Rattle.discovery_calls.specs.declared.Discovery.{Discovery}
 use Rattle.discovery.specs.Discovery.{Page, Source}

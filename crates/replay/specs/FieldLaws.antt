@@ -11,8 +11,8 @@ use lib.Dec.{ltb, leb, eqb}
 use lib.ListN.{length, take, drop, getD, set, drop-of-length-le, length-drop}
 use lib.Seq.{drop-cons, take-suc-set, length-take-le, take-all, drop-drop}
 use borrow.Author.Tests.{leb-true, ltb-true, ltb-false, lt-ltb, le-ltb, eq-eqb, ne-eqb, eqb-true, eqb-false, not-true, not-false}
-use Rattle.table.specs.Cases.{split as by-test, clash}
-use Rattle.table.specs.Place.{prefix, prefix-le}
+use Rattle.laws.specs.Cases.{split as by-test, clash}
+use Rattle.laws.specs.Place.{prefix, prefix-le}
 use Rattle.replay.specs.declared.fields.Number.{Number}
 use Rattle.replay.specs.declared.fields.Number.the-variants as number
 use Rattle.replay.specs.declared.fields.Octet.the-variants as octet

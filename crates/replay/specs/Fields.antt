@@ -7,7 +7,7 @@ use mathlib.Core.List.{List, [], _∷_, _++_}
 use Prim.Native.Nat.{ℕ, _+_, _*_, _-_, _/_, _%_, _≤_}
 use lib.Dec.{ltb, leb, eqb}
 use lib.ListN.{length, take}
-use Rattle.table.specs.Place.{prefix}
+use Rattle.laws.specs.Place.{prefix}
 use Rattle.rules.specs.Cid.{cidOf}
 use Rattle.replay.specs.declared.fields.Number.{Number}
 use Rattle.replay.specs.declared.fields.Number.the-variants as number

@@ -10,7 +10,7 @@ use Rattle.settings.specs.declared.Settings.{Settings}
 use Rattle.settings.specs.Settings as setting
 use Rattle.waiting.specs.Records.{records, over}
 use Rattle.waiting.specs.Waiting.{store-length}
-use Rattle.space.specs.Space.{bytes}
+use Rattle.lengths.specs.Space.{bytes}
 use Rattle.packets.specs.View.{packetOf, syncOf}
 use Rattle.model.specs.Packet.{Packet, data-packet, sync-packet, discovery-packet}
 use Rattle.model.specs.State.{State, listens}

@@ -8,7 +8,7 @@ use Prim.Native.Nat.{ℕ}
 use lib.Dec.{ltb}
 use lib.ListN.{length, take}
 use lib.Seq.{take-length}
-use Rattle.table.specs.Cases.{split}
+use Rattle.laws.specs.Cases.{split}
 use Rattle.settings.specs.declared.Settings.{Settings}
 use Rattle.packets.specs.View.{packetOf}
 use Rattle.model.specs.Packet.{data-packet, discovery-packet}

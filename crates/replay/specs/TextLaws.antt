@@ -14,7 +14,7 @@ use lib.ListN.{length, take, drop, getD, set, length-set}
 use lib.Seq.{take-suc-set, take-suc, take-all, take-length}
 use borrow.Author.Tests.{ltb-true, ltb-false}
 use Rattle.io.specs.Digits.{Fewest, digits, glyph}
-use Rattle.table.specs.Cases.{split, clash}
+use Rattle.laws.specs.Cases.{split, clash}
 use Rattle.replay.specs.Text.{places, decimalOf, signedOf, hexText, tailText, listText, byteText, Ready, Tells}
 
 -- ── one text behind another ──

@@ -8,7 +8,7 @@ ghost use Rattle.waiting_store.specs.Entries as held;
 ghost use Rattle.listening.specs.View as hearing;
 ghost use Rattle.sequences.specs.View as numbered;
 ghost use Rattle.discovery_calls.specs.View as found;
-ghost use Rattle.space.specs.Space.{bytes};
+ghost use Rattle.lengths.specs.Space.{bytes};
 ghost use Rattle.packets.specs.View.{packetOf, syncOf};
 ghost use Rattle.model.specs.Packet.{data-packet, sync-packet, discovery-packet};
 ghost use Rattle.model.specs.Calls.{poll-call, expiry-call, listen-call, mute-call, clear-call, clear-all-call, reset-call};
@@ -126,7 +126,12 @@ pub fn listen(
     }
 }
 
-pub fn mute(session: Session, heard: &mut ListenedUniverses, universe: u16, out: &mut [u8]) -> Session
+pub fn mute(
+    session: Session,
+    heard: &mut ListenedUniverses,
+    universe: u16,
+    out: &mut [u8],
+) -> Session
     requires { ⌜ hearing.Kept (session .receiver .listened) (now heard) × Ready (session .at) (now out) ⌝ }
     ensures { λ r. ⌜ ((m : Memory) → Carries session (with-listened-rows (now (heard .entry)) m) (now (out .entry))
         (called (mute-call universe) muteNumber muteValues (session .settings)

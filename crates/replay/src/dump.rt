@@ -109,13 +109,7 @@ fn put_cids(out: &mut [u8], at: usize, sources: &SourceRows, n: usize) -> usize
     a
 }
 
-fn put_sources_line(
-    out: &mut [u8],
-    at: usize,
-    mark: u8,
-    sources: &SourceRows,
-    n: usize,
-) -> usize
+fn put_sources_line(out: &mut [u8], at: usize, mark: u8, sources: &SourceRows, n: usize) -> usize
     requires { ⌜ Ready at (now out) × (n ≤ 1024) × (length (now sources) ≡ 1024) ⌝ }
     ensures { λ r. ⌜ Tells (sourcesLine mark (sourcesOf n (now (sources .entry)))) (now (out .entry)) at (now (out .exit)) r ⌝ }
 {
@@ -203,7 +197,12 @@ pub fn front_numbers(list: &[u16], n: usize) -> &[u16]
     list
 }
 
-pub fn put_listened(out: &mut [u8], at: usize, listened: Listened, heard: &ListenedUniverses) -> usize
+pub fn put_listened(
+    out: &mut [u8],
+    at: usize,
+    listened: Listened,
+    heard: &ListenedUniverses,
+) -> usize
     requires { ⌜ Ready at (now out) ⌝ }
     ensures { λ r. ⌜ Tells (listenedLine (listenedOf listened (now (heard .entry)))) (now (out .entry)) at (now (out .exit)) r ⌝ }
 {

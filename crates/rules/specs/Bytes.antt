@@ -9,7 +9,7 @@ use native.Mathlib.Nat.{mul-le-mul-right, suc-mul, le-of-lt, pow-suc, pow-succ',
 use lib.Dec.{ltb, eqb}
 use lib.ListN.{length, take, drop, getD}
 use borrow.Author.Tests.{ltb-true, ltb-false, lt-ltb, le-ltb}
-use Rattle.table.specs.Cases.{split}
+use Rattle.laws.specs.Cases.{split}
 
 -- the number that the bytes spell
 unfoldable pub number : List ℕ → ℕ

@@ -11,8 +11,8 @@ use lib.Dec.{ltb, eqb}
 use lib.ListN.{length, take, drop, take-append-drop, length-take, length-drop}
 use lib.Seq.{take-at, drop-at}
 use borrow.Author.Tests.{eq-eqb, eqb-true}
-use Rattle.table.specs.Cases.{split}
-use Rattle.table.specs.Order.{Order, ℕ-order, before-by, order-by}
+use Rattle.laws.specs.Cases.{split}
+use Rattle.laws.specs.Order.{Order, ℕ-order, before-by, order-by}
 use Rattle.rules.specs.declared.Cid.{Cid}
 use Rattle.rules.specs.Bytes.{number, bigEndian, Bytes, bytes-before, number-order, before-append, length-bigEndian, number-bigEndian, bigEndian-number}
 

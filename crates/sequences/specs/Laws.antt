@@ -5,7 +5,7 @@ use mathlib.Core.Bool.{Bool, true, false, not, cond}
 use mathlib.Core.Option.{Option, none, some}
 use Prim.Native.Nat.{ℕ}
 use native.Mathlib.Omega.{arith}
-use Rattle.table.specs.Cases.{split, found, clash}
+use Rattle.laws.specs.Cases.{split, found, clash}
 use Rattle.rules.specs.declared.Cid.{Cid}
 use Rattle.pairs.specs.declared.Pair.{Pair}
 use Rattle.pairs.specs.declared.SweepAnswer.{SweepAnswer}

@@ -2,7 +2,7 @@
 -- Assumes nothing.
 use denote.Ref.{RefT, now}
 use denote.Triple.Both.{Both}
-use Rattle.table.specs.Lent.{Part}
+use Rattle.laws.specs.Lent.{Part}
 use Rattle.pair_rows.specs.View.{Rows}
 use Rattle.sequences.specs.View.{Lent, lent}
 

@@ -1,380 +1,407 @@
 -- One law for each return of the parts of a step.
 -- Assumes nothing.
-use mathlib.Core.Path.{_≡_, refl, sym, ap, _∙_, subst}
-use mathlib.Core.Bool.{true, false}
-use mathlib.Core.List.{List, [], _∷_, append-nil}
-use mathlib.Core.Logic.{_≢_}
+use mathlib.Core.Path.{_≡_, refl, sym, ap, subst, _∙_}
+use mathlib.Core.Bool.{Bool, true, false, cond, not, _&&_}
 use mathlib.Core.Option.{Option, none, some}
-use Prim.Native.Nat.{ℕ, _≤_}
+use mathlib.Core.List.{List, []}
+use Prim.Native.Nat.{ℕ, _+_, _≤_}
 use native.Mathlib.Omega.{arith}
-use Rattle.table.specs.Cases.{split, found}
-use native.Mathlib.Nat.{zero-add}
-use lib.Dec.{eqb, ltb}
 use lib.ListN.{length}
-use borrow.Author.Tests.{eq-eqb, ne-eqb}
-use Rattle.table.specs.Parts.{pasted-front}
-use Rattle.settings.specs.declared.Settings.{Settings}
-use Rattle.merge.specs.Merge.{Dmx}
-use Rattle.waiting.specs.declared.StoreAnswer.{StoreAnswer}
-use Rattle.waiting.specs.declared.StoreAnswer.the-variants as storing
-use Rattle.waiting.specs.declared.StoreCall.{StoreCall}
-use Rattle.waiting.specs.declared.StoreCall.the-variants as call
-use Rattle.waiting.specs.declared.ReleaseAnswer.{ReleaseAnswer}
-use Rattle.waiting.specs.declared.ReleaseAnswer.the-variants as releasing
-use Rattle.waiting.specs.Answers.{storeNumberOf, storeValuesOf, releaseNumberOf}
-use Rattle.waiting.specs.Waiting.{cleared, left}
-use Rattle.waiting.specs.Waiting as waiting
-use Rattle.waiting.specs.Records.{encode, records, over}
-use Rattle.waiting_store.specs.Entries.{waitingOf, lent-none}
-use Rattle.waiting_store.specs.Entries as entries
-use Rattle.waiting_store.specs.Written.{Laid, Writing}
-use Rattle.waiting_calls.specs.Calls.{Yields, StoredCall, StoreCalled, taken-is, taken-call, ReleaseCalled, released-is, released-leaves, released-writes, SweptCall}
-use Rattle.model.specs.Answer.{stepNumber}
-use Rattle.listening.specs.declared.ListenDone.{ListenDone}
-use Rattle.listening.specs.View.{listenedOf, Listens}
-use Rattle.listening.specs.View as listening
-use Rattle.model.specs.declared.StepAnswer.{StepAnswer}
-use Rattle.model.specs.declared.StepAnswer.the-variants as says
-use Rattle.model.specs.declared.ListenAnswer.{ListenAnswer}
-use Rattle.model.specs.declared.ListenAnswer.the-variants as listen
-use Rattle.model.specs.Packet as model
-use Rattle.model.specs.State.{State}
-use Rattle.model.specs.Step.{Outcome, outcome, illegal, joined-by, most-listened, with-waiting, with-listened, dmx, listen-all, heard, stored, kept, synchronised, unsynchronised, accepted, release, with-data, with-sync, if-accepted, stopped, data-arrival, sync-arrival, synchronise, data-pair, sync-pair, poll, poll-sync, poll-waiting}
-use Rattle.packets.specs.declared.DataPacket.{DataPacket}
-use Rattle.pairs.specs.declared.Checked.{Checked}
-use Rattle.pairs.specs.declared.Checked.the-variants as checked
-use Rattle.pairs.specs.Table as pairs
-use Rattle.pairs.specs.Table.{Table, Key, key, check, sweep, numberOf, valuesOf}
+use Rattle.laws.specs.Cases.{split, found, clash, missing}
 use Rattle.rules.specs.declared.Cid.{Cid}
+use Rattle.rules.specs.Answer.{Value, first-of}
+use Rattle.settings.specs.declared.Settings.{Settings}
+use Rattle.pairs.specs.Answers.{answerOf, sweepNumberOf, sweepValuesOf}
+use Rattle.pair_rows.specs.View.{Rows}
+use Rattle.pairs.specs.Table.{Key, key, pairAt}
+use Rattle.pair_tables.specs.declared.DataTable.{DataTable}
+use Rattle.pair_tables.specs.declared.SyncTable.{SyncTable}
 use Rattle.pairs.specs.declared.SweepAnswer.{SweepAnswer}
 use Rattle.pairs.specs.declared.SweepAnswer.the-variants.{Quiet, TimedOut}
 use Rattle.sequences.specs.declared.SequenceNumbering.{SequenceNumbering}
-use Rattle.sequences.specs.View as numbered
-use Rattle.sequences.specs.Laws.{answer-some, answer-none}
-use Rattle.sequences.specs.Sequences.{Numbers, numbers, timeouts, timeouts-data, timeouts-sync}
-use Rattle.pair_tables.specs.View as counted
-use Rattle.pair_rows.specs.View.{Rows}
-use Rattle.packets.specs.View.{packetOf}
-use Rattle.steps.specs.View.{dataOf, Lent, lentOf, waits, hears, Releases, Ready, Holds, Accepts, Counted, counts, Tells, storeSaid, releaseSaid, Arrives, Synchronises, Polls}
+use Rattle.sequences.specs.Sequences.{numbers, removed}
+use Rattle.sequences.specs.View as sequences
+use Rattle.sequences.specs.Laws.{answer-some, answer-none, removed-found}
+use Rattle.waiting_calls.specs.declared.Waiting.{Waiting}
+use Rattle.waiting.specs.Records.{most-bytes}
+use Rattle.waiting.specs.Laws.{over-none}
+use Rattle.waiting.specs.Waiting.{store-length}
+use Rattle.waiting_store.specs.Entries.{lent-none}
+use Rattle.waiting_store.specs.Entries as waiting
+use Rattle.listening.specs.declared.Listened.{Listened}
+use Rattle.discovery_calls.specs.declared.Discovery.{Discovery}
+use Rattle.discovery.specs.declared.PageAnswer.{PageAnswer}
+use Rattle.discovery.specs.declared.PageAnswer.the-variants as page
+use Rattle.discovery.specs.declared.PageCall.{PageCall}
+use Rattle.discovery.specs.declared.PageCall.the-variants as paging
+use Rattle.discovery_calls.specs.declared.PageCalled.{PageCalled}
+use Rattle.discovery.specs.Discovery.{Discovered, arrived, ended}
+use Rattle.discovery_calls.specs.View.{discoveredOf, Holds}
+use Rattle.discovery_calls.specs.View as discovery
+use Rattle.discovery_calls.specs.Arrive.{Called, page-call-fits}
+use Rattle.discovery_rows.specs.Lent as pool
+use Rattle.lengths.specs.Space.{spaceOf}
+use Rattle.model.specs.declared.StepAnswer.{StepAnswer}
+use Rattle.model.specs.declared.StepAnswer.the-variants as says
+use Rattle.model.specs.Packet.{DataPacket, SyncPacket, Packet, data-packet, sync-packet, discovery-packet, too-long}
+use Rattle.model.specs.State.{State, listens}
+use Rattle.model.specs.Step as model
+use Rattle.model.specs.Step.{Space, outcome, too-short, page-bytes, poll, polled, data-step, terminated, sync-step, discovery-step, listed, packet-step, step}
+use Rattle.arrivals.specs.View.{Polls, Arrives, Synchronises, rowsOf, lentOf}
+use Rattle.lengths.specs.Finds.{longOf, room-for, first-none}
+use Rattle.receiver.specs.declared.Receiver.{Receiver}
+use Rattle.receiver.specs.Further.{polled-kept}
+use Rattle.steps.specs.declared.Course.{Course}
+use Rattle.steps.specs.declared.Course.the-variants as course
+use Rattle.packets.specs.declared.DiscoveryPacket.{DiscoveryPacket}
+use Rattle.receiver.specs.View.{Memory, sequencesIn, with-sequence-rows, with-sync-rows, with-waiting-rows, with-listened-rows, with-discovery-rows, stateOf, spaceIn, pool-length, Kept}
+use Rattle.packets.specs.View.{announcementOf}
+use Rattle.steps.specs.View.{opening, courseOf, Opens, Ends, called, Tells, Takes}
 
--- ── the answers of the parts, told by the step ──
-pub store-tells : (c : StoreCall) → Tells (storeSaid c) (storeNumberOf c) (storeValuesOf c)
-store-tells (call.Taken storing.Stored) = record { number-is = refl; values-are = λ own. refl }
-store-tells (call.Taken storing.MergeRefused) = record { number-is = refl; values-are = λ own. refl }
-store-tells (call.Taken storing.WaitingFull) = record { number-is = refl; values-are = λ own. refl }
-store-tells (call.TooLong n) = record { number-is = refl; values-are = λ own. refl }
+-- ── lengths ──
+pub record Long (out store universes : List ℕ) : Type 0 where
+  pub output : most-bytes ≤ length out
+  pub held : store-length ≤ length store
+  pub found : pool-length ≤ length universes
 
-pub stop-tells : (a : Checked) → Tells (stopped a) (numberOf a) (valuesOf a)
-stop-tells checked.Accepted = record { number-is = refl; values-are = λ own. refl }
-stop-tells (checked.UniverseTimeout c u) = record { number-is = refl; values-are = λ own. refl }
-stop-tells (checked.SourcesExceeded n) = record { number-is = refl; values-are = λ own. refl }
-stop-tells (checked.OutOfSequence a l d) = record { number-is = refl; values-are = λ own. refl }
-stop-tells checked.PairsFull = record { number-is = refl; values-are = λ own. refl }
-stop-tells checked.SourceWithoutPairs = record { number-is = refl; values-are = λ own. refl }
+pub long-enough : (out store universes : List ℕ) → too-short (spaceOf out store universes) ≡ none → Long out store universes
+unfolding too-short
+long-enough out store universes e =
+    let a = first-none _ _ e in
+    let b = first-none _ _ (a .1) in
+    let c = room-for page-bytes (length universes + length universes) (b .1) in
+    record { output = room-for _ _ (a .0); held = room-for _ _ (b .0); found = omega arith }
 
--- a release's number; its values are told where records are left
-pub release-tells : (a : ReleaseAnswer) → stepNumber (releaseSaid a) ≡ releaseNumberOf a
-release-tells (releasing.Released n b) = split (eqb n 0) (λ h. rw h) (λ h. rw h)
-release-tells (releasing.OutputShort n) = refl
+-- ── the opening ──
+step-short : (m : Space) (S : Settings) (now n : ℕ) (p : Packet) (s : State) → too-short m ≡ some n → step m S now p s ≡ outcome s (says.TooShort n)
+unfolding step
+step-short m S now n p s e = rw (e, step)
 
--- one record
-one-record : (d : Dmx) → records (d ∷ []) ≡ encode d
-unfolding records
-one-record d = append-nil (encode d)
+step-long : (m : Space) (S : Settings) (now n : ℕ) (p : Packet) (s : State) → too-short m ≡ none → too-long p ≡ some n → step m S now p s ≡ outcome s (says.TooLong n)
+unfolding step model.measured
+step-long m S now n p s e f = rw (e, step, f, model.measured)
 
-pub releases : (now : ℕ) (p : DataPacket) (vs : List ℕ) (n n′ : ℕ) (rows rows′ : Rows) (store store′ out out′ : List ℕ) (r : ℕ)
-    → Yields rows store rows′ store′ n′ (cleared (p .universe) (waitingOf n rows store) .0) → Laid (dataOf p now) vs out out′ 0 r
-    → Releases now (packetOf p vs) n rows store out n′ rows′ store′ out′ r
-releases now p vs n n′ rows rows′ store store′ out out′ r y l = record {
-  yields = y;
-  written = l .laid ∙ pasted-front out (encode (dmx now (packetOf p vs))) ∙ ap (λ (b : List ℕ). over b out) (sym (one-record (dmx now (packetOf p vs))));
-  byte-count = l .after ∙ zero-add (length (encode (dmx now (packetOf p vs)))) ∙ ap length (sym (one-record (dmx now (packetOf p vs))));
+step-polled : (m : Space) (S : Settings) (now : ℕ) (p : Packet) (s s′ : State) (o : Option Key) → too-short m ≡ none → too-long p ≡ none → poll S now s ≡ (s′, o)
+    → step m S now p s ≡ polled S now p (s′, o)
+unfolding step model.measured
+step-polled m S now p s s′ o e f g = rw (e, step, f, model.measured) (ap (polled S now p) g)
+
+module _ (S : Settings) (now : ℕ) (long : Option ℕ) (r : Receiver) (m : Memory) (out : List ℕ) where
+  pub opens-short : (n : ℕ) → too-short (spaceIn m out) ≡ some n → Opens S now long r m out r m true (says.TooShort n)
+  opens-short n z = record {
+    ends = λ t p e. step-short (spaceIn m out) S now n p (stateOf r m) z;
+    goes-on = λ f. clash refl f;
+    fits = λ f. clash refl f;
+    all-left = λ k e. (refl, refl);
+    kept = λ k. k;
+    lent-waiting = lent-none (m .rows) (m .store);
+    lent-pages = pool.lent-none (m .universes);
+    told = λ own i. opening (sym z i) long (poll S now (stateOf r m) .1);
+  }
+
+  pub opens-long : (n : ℕ) → too-short (spaceIn m out) ≡ none → long ≡ some n → Opens S now long r m out r m true (says.TooLong n)
+  opens-long n z l = record {
+    ends = λ t p e. step-long (spaceIn m out) S now n p (stateOf r m) z (e ∙ l);
+    goes-on = λ f. clash refl f;
+    fits = λ f. clash refl f;
+    all-left = λ k e. (refl, refl);
+    kept = λ k. k;
+    lent-waiting = lent-none (m .rows) (m .store);
+    lent-pages = pool.lent-none (m .universes);
+    told = λ own i. opening (sym z i) (sym l i) (poll S now (stateOf r m) .1);
+  }
+
+  module _ {q : SequenceNumbering} {n : sequences.Lent} {w : Waiting} {rows : Rows} {store : List ℕ} {a : SweepAnswer} (z : too-short (spaceIn m out) ≡ none) (l : long ≡ none)
+      (p : Polls S now (r .sequences) (sequencesIn m) (r .waiting .count) (m .rows) (m .store) q n (w .count) rows store a) where
+    next : Receiver
+    next = record { sequences = q; waiting = w; listened = r .listened; discovery = r .discovery }
+
+    left : Memory
+    left = with-sequence-rows n (with-waiting-rows rows store m)
+
+    stepped : (o : Option Key) → p .timed-out ≡ o → (x : Packet) → too-long x ≡ long → step (spaceIn m out) S now x (stateOf r m) ≡ polled S now x (stateOf next left, o)
+    unfolding next left
+    stepped o e x f =
+        step-polled (spaceIn m out) S now x (stateOf r m) (stateOf next left) o z (f ∙ l)
+        (p .state-is (stateOf r m) refl refl refl ∙ ap {B = State × Option Key} (λ (k : Option Key). (stateOf next left, k)) e)
+
+    tested : (k : ℕ) → first-of (too-short (spaceIn m out)) long ≡ some k → ⊥
+    tested k e = missing k e (ap (λ (x : Option ℕ). first-of x long) z ∙ l)
+
+    -- the sweep's own answer
+    swept-told : poll S now (stateOf r m) .1 ≡ p .timed-out
+    swept-told = ap (λ (x : State × Option Key). x .1) (p .state-is (stateOf r m) refl refl refl)
+
+    sweep-first : (b : SweepAnswer) → a ≡ b → (sweepNumberOf b, sweepValuesOf b) ≡ opening (too-short (spaceIn m out)) long (poll S now (stateOf r m) .1)
+    sweep-first b e =
+        let x = sym e ∙ p .answer-is ∙ ap answerOf (sym swept-told) in
+        ap {B = ℕ × List Value} (λ (y : SweepAnswer). (sweepNumberOf y, sweepValuesOf y)) x
+        ∙ (λ i. opening (sym z i) (sym l i) (poll S now (stateOf r m) .1))
+
+    pub opens-told : (c : Cid) (u : ℕ) → a ≡ TimedOut c u
+        → Opens S now long r m out (record { sequences = q; waiting = w; listened = r .listened; discovery = r .discovery }) (with-sequence-rows n (with-waiting-rows rows store m)) true (says.UniverseTimeout c u)
+    unfolding next left polled
+    opens-told c u e = record {
+      ends = λ t x f. stepped (some (key c u)) (answer-some (p .timed-out) c u (sym e ∙ p .answer-is)) x f;
+      goes-on = λ f. clash refl f;
+      fits = λ f. clash refl f;
+      all-left = λ k f. absurd (tested k f);
+      kept = polled-kept S now r m p;
+      lent-waiting = p .lent-waiting;
+      lent-pages = pool.lent-none (m .universes);
+      told = λ own. sweep-first (TimedOut c u) e;
+    }
+
+    pub opens-quiet : a ≡ Quiet
+        → Opens S now long r m out (record { sequences = q; waiting = w; listened = r .listened; discovery = r .discovery }) (with-sequence-rows n (with-waiting-rows rows store m)) false says.Nothing
+    unfolding next left polled
+    opens-quiet e = record {
+      ends = λ t. clash t refl;
+      goes-on = λ t x f. stepped none (answer-none (p .timed-out) (sym e ∙ p .answer-is)) x f;
+      fits = λ f. (z, l);
+      all-left = λ k f. absurd (tested k f);
+      kept = polled-kept S now r m p;
+      lent-waiting = p .lent-waiting;
+      lent-pages = pool.lent-none (m .universes);
+      told = λ own. sweep-first Quiet e;
+    }
+
+-- what the parts of a step presuppose, where the opening let it go on
+module _ (S : Settings) (now : ℕ) (long : Option ℕ) (r : Receiver) (m : Memory) (out : List ℕ) (r′ : Receiver) (m′ : Memory) (stopped : Bool) (a : StepAnswer)
+    (k : Kept r m) (o : Opens S now long r m out r′ m′ stopped a) (e : stopped ≡ false) where
+  enough : Long out (m .store) (m .universes)
+  enough = long-enough out (m .store) (m .universes) (o .fits e .0)
+
+  pub ready-output : 35072 ≤ length out
+  ready-output = enough .output
+
+  pub ready-held : waiting.Kept (r′ .waiting .count) (m′ .rows) (m′ .store)
+  ready-held = let h = enough .held in let l = o .lent-waiting .store-same in o .kept k .kept-waiting (omega arith)
+
+  pub ready-found : m′ .universes ≡ m .universes → discovery.Kept (r′ .discovery) (m′ .sources) (m′ .names) (m′ .pages) (m′ .universes)
+  ready-found z = let h = enough .found in let l = ap (λ (x : List ℕ). length x) z in o .kept k .kept-discovery (omega arith)
+
+-- ── a packet that does nothing ──
+module _ (S : Settings) (now : ℕ) (p : Packet) (r : Receiver) (m : Memory) (out : List ℕ) where
+  pub takes-nothing : (a : StepAnswer) → packet-step S now p (stateOf r m) ≡ outcome (stateOf r m) a → Takes S now p r m out r m out a
+  takes-nothing a e = record {
+    released = [];
+    outcome-is = e;
+    written = sym (over-none out);
+    kept = λ k. k;
+    lent-waiting = lent-none (m .rows) (m .store);
+    lent-pages = pool.lent-none (m .universes);
+  }
+
+-- ── 4. synchronisation ──
+sync-unheard : (S : Settings) (now : ℕ) (y : SyncPacket) (s : State) → listens (y .address) (s .listened) ≡ false → packet-step S now (sync-packet y) s ≡ outcome s says.Nothing
+unfolding packet-step sync-step
+sync-unheard S now y s e = rw e
+
+sync-heard : (S : Settings) (now : ℕ) (y : SyncPacket) (s : State) → listens (y .address) (s .listened) ≡ true → packet-step S now (sync-packet y) s ≡ model.sync-arrival S now y s
+unfolding packet-step sync-step
+sync-heard S now y s e = rw e
+
+module _ (S : Settings) (now : ℕ) (y : SyncPacket) (r : Receiver) (m : Memory) (out : List ℕ) where
+  pub takes-sync-unheard : listens (y .address) (stateOf r m .listened) ≡ false → Takes S now (sync-packet y) r m out r m out says.Nothing
+  takes-sync-unheard e = takes-nothing S now (sync-packet y) r m out says.Nothing (sync-unheard S now y (stateOf r m) e)
+
+  pub takes-sync : (t : SyncTable) (sp ss : Rows) (w : Waiting) (rows : Rows) (store out′ : List ℕ) (a : StepAnswer) → listens (y .address) (stateOf r m .listened) ≡ true
+      → Synchronises S now y (rowsOf (r .sequences .sync .table) (m .sync-pairs) (m .sync-sources)) (r .waiting .count) (m .rows) (m .store) out (rowsOf (t .table) sp ss) (w .count) rows store out′ a
+      → Takes S now (sync-packet y) r m out (record { sequences = record { «data» = r .sequences .«data»; sync = t }; waiting = w; listened = r .listened; discovery = r .discovery })
+      (with-sync-rows sp ss (with-waiting-rows rows store m)) out′ a
+  takes-sync t sp ss w rows store out′ a e y′ = record {
+    released = y′ .released;
+    outcome-is = sync-heard S now y (stateOf r m) e ∙ y′ .outcome-is (stateOf r m) refl refl;
+    written = y′ .written;
+    kept = λ k. record {
+      kept-sequences = record { kept-data = k .kept-sequences .kept-data; kept-sync = y′ .kept };
+      kept-waiting = λ h. y′ .kept-waiting;
+      kept-listened = k .kept-listened;
+      kept-discovery = k .kept-discovery;
+    };
+    lent-waiting = y′ .lent-waiting;
+    lent-pages = pool.lent-none (m .universes);
+  }
+
+-- ── 5. discovery ──
+module _ (S : Settings) (now : ℕ) (p : DiscoveryPacket) (name list : List ℕ) (r : Receiver) (m : Memory) (out : List ℕ) where
+  pub takes-discovery : (d : PageCalled) (sources names pages : Rows) (universes : List ℕ) (a : StepAnswer) → length name ≤ 63 → length list ≤ 512
+      → Called (r .discovery) (m .sources) (m .names) (m .pages) (m .universes) now (announcementOf p name list) d sources names pages universes → a ≡ called S (d .answer)
+      → Takes S now (discovery-packet (announcementOf p name list)) r m out
+      (record { sequences = r .sequences; waiting = r .waiting; listened = r .listened; discovery = d .discovery }) (with-discovery-rows sources names pages universes m) out a
+  unfolding packet-step discovery-step
+  takes-discovery d sources names pages universes a f h t e =
+      let g = arrived now (announcementOf p name list) (stateOf r m .discovered) in
+      let x = page-call-fits now (announcementOf p name list) (stateOf r m .discovered) f h in
+      let u : g .0 ≡ discoveredOf (d .discovery) sources names pages universes = sym (t .seen ∙ ap (λ (y : Discovered × PageCall). y .0) x) in
+      let v : listed S (g .1) ≡ a = sym (ap (called S) (t .answered ∙ ap (λ (y : Discovered × PageCall). y .1) x)) ∙ sym e in
+      record {
+        released = [];
+        outcome-is = λ i. outcome (model.with-discovered (u i) (stateOf r m)) (v i);
+        written = sym (over-none out);
+        kept = λ k. record {
+          kept-sequences = k .kept-sequences;
+          kept-waiting = k .kept-waiting;
+          kept-listened = k .kept-listened;
+          kept-discovery = λ z. t .kept;
+        };
+        lent-waiting = lent-none (m .rows) (m .store);
+        lent-pages = t .lent;
+      }
+
+-- the answer keeps number and values
+tells-listed : (S : Settings) (a : PageAnswer) → Tells (paging.Done a) (listed S a)
+tells-listed S page.Taken = record { number-is = λ z. refl; values-are = λ z own. refl }
+tells-listed S page.Listed =
+    split (S .«announce_source_discovery»)
+    (λ e. rw e (record { number-is = λ z. clash refl z; values-are = λ z. clash refl z }))
+    (λ e. rw e (record { number-is = λ z. refl; values-are = λ z own. refl }))
+tells-listed S page.PagesFull = record { number-is = λ z. refl; values-are = λ z own. refl }
+
+tells-long : (n : ℕ) → Tells (paging.TooLong n) (says.TooLong n)
+tells-long n = record { number-is = λ z. refl; values-are = λ z own. refl }
+
+-- one law for each case of the call
+module _ (S : Settings) (a : PageCall) (r : StepAnswer) where
+  pub called-done : (p : PageAnswer) → a ≡ paging.Done p → r ≡ listed S p → (r ≡ called S a) × Tells a r
+  called-done p e f =
+      subst (λ (b : PageCall). (r ≡ called S b) × Tells b r) (sym e)
+      (subst (λ (x : StepAnswer). (x ≡ listed S p) × Tells (paging.Done p) x) (sym f) (refl, tells-listed S p))
+
+  pub called-long : (n : ℕ) → a ≡ paging.TooLong n → r ≡ says.TooLong n → (r ≡ called S a) × Tells a r
+  called-long n e f =
+      subst (λ (b : PageCall). (r ≡ called S b) × Tells b r) (sym e)
+      (subst (λ (x : StepAnswer). (x ≡ says.TooLong n) × Tells (paging.TooLong n) x) (sym f) (refl, tells-long n))
+
+-- ── 3. data ──
+-- the courses differ
+arrive-end : course.Arrive ≡ course.End → ⊥
+arrive-end e = let z : _≡_ {A = ℕ} 0 1 = cc in absurd (omega arith)
+
+pass-end : course.Pass ≡ course.End → ⊥
+pass-end e = let z : _≡_ {A = ℕ} 0 1 = cc in absurd (omega arith)
+
+pass-arrive : course.Pass ≡ course.Arrive → ⊥
+pass-arrive e = let z : _≡_ {A = ℕ} 0 1 = cc in absurd (omega arith)
+
+pub unwanted-off : (p b : Bool) → b ≡ true → false ≡ p && not b
+unwanted-off true b e = rw e
+unwanted-off false b e = refl
+
+pub unwanted-on : (p b : Bool) → b ≡ false → p ≡ p && not b
+unwanted-on true b e = rw e
+unwanted-on false b e = refl
+
+-- what a course says of the packet
+module _ (t l : Bool) (x : Course) (e : x ≡ courseOf t l) where
+  pub course-end : x ≡ course.End → t ≡ true
+  course-end f =
+      split t
+      (λ h. h)
+      (λ h. split l
+      (λ g. let z : course.Arrive ≡ course.End = sym (e ∙ (rw (h, g))) ∙ f in absurd (arrive-end z))
+      (λ g. let z : course.Pass ≡ course.End = sym (e ∙ (rw (h, g))) ∙ f in absurd (pass-end z)))
+
+  pub course-arrive : x ≡ course.Arrive → (t ≡ false) × (l ≡ true)
+  course-arrive f =
+      split t
+      (λ h. let z : course.End ≡ course.Arrive = sym (e ∙ (rw h)) ∙ f in absurd (arrive-end (sym z)))
+      (λ h. split l
+      (λ g. (h, g))
+      (λ g. let z : course.Pass ≡ course.Arrive = sym (e ∙ (rw (h, g))) ∙ f in absurd (pass-arrive z)))
+
+  pub course-pass : x ≡ course.Pass → (t ≡ false) × (l ≡ false)
+  course-pass f =
+      split t
+      (λ h. let z : course.End ≡ course.Pass = sym (e ∙ (rw h)) ∙ f in absurd (pass-end (sym z)))
+      (λ h. split l
+      (λ g. let z : course.Arrive ≡ course.Pass = sym (e ∙ (rw (h, g))) ∙ f in absurd (pass-arrive (sym z)))
+      (λ g. (h, g)))
+
+-- a stream that ends: the tables' call says by the unknown pair what the model says by the known one
+removed-terminated : (d : DataPacket) (s : State)
+    → terminated d s ≡ (let n = removed (key (d .cid) (d .universe)) (numbers (s .data-pairs) (s .sync-pairs)) in
+    record { data-pairs = n .data-table; sync-pairs = n .sync-table; waiting = s .waiting; listened = s .listened; discovered = ended (d .cid) (d .universe) (s .discovered) })
+unfolding terminated
+removed-terminated d s =
+    let k = key (d .cid) (d .universe) in
+    let n = numbers (s .data-pairs) (s .sync-pairs) in
+    found (pairAt k (s .data-pairs .pairs))
+    (λ e. rw (e, removed-found k n none e))
+    (λ x e. rw (e, removed-found k n (some x) e))
+
+pub ends-stream : (c : Cid) (u : ℕ) (r : Receiver) (m : Memory) (q : SequenceNumbering) (n : sequences.Lent) (d : Discovery) (pages : Rows) (universes : List ℕ)
+    → sequences.numbersOf q n ≡ removed (key c u) (sequences.numbersOf (r .sequences) (sequencesIn m)) → sequences.Kept q n
+    → Holds (m .universes) d (m .sources) (m .names) pages universes (ended c u (stateOf r m .discovered))
+    → Ends c u r m (record { sequences = q; waiting = r .waiting; listened = r .listened; discovery = d }) (with-sequence-rows n (with-discovery-rows (m .sources) (m .names) pages universes m))
+ends-stream c u r m q n d pages universes e k h = record {
+  state-is = λ x f g.
+      removed-terminated x (stateOf r m)
+      ∙ (λ i. (let z = removed (key (f i) (g i)) (sequences.numbersOf (r .sequences) (sequencesIn m)) in
+      record { data-pairs = z .data-table; sync-pairs = z .sync-table; waiting = stateOf r m .waiting; listened = stateOf r m .listened; discovered = ended (f i) (g i) (stateOf r m .discovered) }))
+      ∙ (λ i. record { data-pairs = sym e i .data-table; sync-pairs = sym e i .sync-table; waiting = stateOf r m .waiting; listened = stateOf r m .listened; discovered = sym (h .seen) i });
+  kept = λ x. record { kept-sequences = k; kept-waiting = x .kept-waiting; kept-listened = x .kept-listened; kept-discovery = λ l. h .kept };
+  lent-pages = h .lent;
 }
 
--- ── holding ──
--- an address that is refused leaves the list
-pub refused-list : (us L : List ℕ) → listen-all us L .1 ≢ listen.Listening → listen-all us L .0 ≡ L
-refused-list us L n =
-    found (illegal us)
-    (λ e. split (ltb most-listened (length (joined-by us L)))
-    (λ f. unfold listen-all in cc)
-    (λ f. absurd (n (unfold listen-all in cc))))
-    (λ u e. unfold listen-all in cc)
+module _ (S : Settings) (now : ℕ) (d : DataPacket) (s : State) where
+  data-unwanted : d .preview && not (S .«process_preview_data») ≡ true → packet-step S now (data-packet d) s ≡ outcome s says.Nothing
+  unfolding packet-step data-step
+  data-unwanted e = rw e
 
-module _ (S : Settings) (now : ℕ) (d : model.DataPacket) (m : Lent) (kw : entries.Kept (m .count) (m .rows) (m .store)) (r : ListenDone) (heard′ : List ℕ)
-    (l : Listens (d .address ∷ []) (m .listened) (m .heard) r heard′) where
-  after : List ℕ
-  after = listenedOf (r .listened) heard′
+  data-ended : d .preview && not (S .«process_preview_data») ≡ false → d .terminated ≡ true
+      → packet-step S now (data-packet d) s ≡ outcome (terminated d s) (cond (S .«announce_stream_termination») (says.UniverseTerminated (d .cid) (d .universe)) says.Nothing)
+  unfolding packet-step data-step
+  data-ended e f = rw (e, f)
 
-  -- what listening makes of any state with this list
-  told : (s : State) → s .listened ≡ hears m → synchronised S now d s ≡ heard (r .answer) (stored S now d (with-listened after s)) s
-  unfolding synchronised after
-  told s e =
-      ap (λ (x : List ℕ × ListenAnswer). heard (x .1) (stored S now d (with-listened (x .0) s)) s) (ap (listen-all (d .address ∷ [])) e ∙ sym (l .view))
+  data-unheard : d .preview && not (S .«process_preview_data») ≡ false → d .terminated ≡ false → listens (d .universe) (s .listened) ≡ false
+      → packet-step S now (data-packet d) s ≡ outcome s says.Nothing
+  unfolding packet-step data-step
+  data-unheard e f g = rw (e, f, g)
 
-  kept-list : r .answer ≢ listen.Listening → after ≡ hears m
-  unfolding after
-  kept-list n =
-      ap (λ (x : List ℕ × ListenAnswer). x .0) (l .view)
-      ∙ refused-list (d .address ∷ []) (hears m) (λ e. n (ap (λ (x : List ℕ × ListenAnswer). x .1) (l .view) ∙ e))
+  data-heard : d .preview && not (S .«process_preview_data») ≡ false → d .terminated ≡ false → listens (d .universe) (s .listened) ≡ true
+      → packet-step S now (data-packet d) s ≡ model.data-arrival S now d s
+  unfolding packet-step data-step
+  data-heard e f g = rw (e, f, g)
 
-  unchanged : (s : State) → s .waiting ≡ waits m → s .listened ≡ hears m → after ≡ hears m → s ≡ with-waiting (waits m) (with-listened after s)
-  unchanged s p q e = λ i. record { data-pairs = s .data-pairs; sync-pairs = s .sync-pairs; waiting = p i; listened = (q ∙ sym e) i; discovered = s .discovered }
+module _ (S : Settings) (now : ℕ) (d : DataPacket) (r : Receiver) (m : Memory) (out : List ℕ) where
+  pub takes-unwanted : d .preview && not (S .«process_preview_data») ≡ true → Takes S now (data-packet d) r m out r m out says.Nothing
+  takes-unwanted e = takes-nothing S now (data-packet d) r m out says.Nothing (data-unwanted S now d (stateOf r m) e)
 
-  ready-refused : Ready m (lentOf (m .count) (r .listened) (m .rows) (m .store) heard′)
-  ready-refused = record { kept-waiting = kw; lent-waiting = lent-none (m .rows) (m .store); kept-listened = l .kept }
+  pub takes-unheard : d .preview && not (S .«process_preview_data») ≡ false → d .terminated ≡ false → listens (d .universe) (stateOf r m .listened) ≡ false
+      → Takes S now (data-packet d) r m out r m out says.Nothing
+  takes-unheard e f g = takes-nothing S now (data-packet d) r m out says.Nothing (data-unheard S now d (stateOf r m) e f g)
 
-  pub holds-illegal : (u : ℕ) → r .answer ≡ listen.IllegalUniverse u
-      → Holds S now d m (lentOf (m .count) (r .listened) (m .rows) (m .store) heard′) (says.IllegalUniverse u)
-  unfolding heard
-  holds-illegal u e = record {
-    outcome-is = λ s p q.
-        told s q ∙ ap (λ (x : ListenAnswer). heard x (stored S now d (with-listened after s)) s) e
-        ∙ (unfold after in ap (λ (x : State). outcome x (says.IllegalUniverse u)) (unfold after in unchanged s p q (kept-list (λ z. let w : _≡_ {A = ℕ} 0 1 = cc in omega arith))));
-    ready = ready-refused;
-  }
-
-  pub holds-full : r .answer ≡ listen.ListenedFull
-      → Holds S now d m (lentOf (m .count) (r .listened) (m .rows) (m .store) heard′) says.ListenedFull
-  unfolding heard
-  holds-full e = record {
-    outcome-is = λ s p q.
-        told s q ∙ ap (λ (x : ListenAnswer). heard x (stored S now d (with-listened after s)) s) e
-        ∙ (unfold after in ap (λ (x : State). outcome x says.ListenedFull) (unfold after in unchanged s p q (kept-list (λ z. let w : _≡_ {A = ℕ} 0 1 = cc in omega arith))));
-    ready = ready-refused;
-  }
-
-  pub holds-stored : (n′ : ℕ) (rows′ : Rows) (store′ : List ℕ) (a : StoreAnswer) → r .answer ≡ listen.Listening
-      → StoredCall (m .count) (m .rows) (m .store) (S .merge) (dmx now d) rows′ store′ n′ a
-      → Holds S now d m (lentOf n′ (r .listened) rows′ store′ heard′) (kept a)
-  unfolding heard stored
-  holds-stored n′ rows′ store′ a e c = record {
-    outcome-is = λ s p q.
-        told s q ∙ ap (λ (x : ListenAnswer). heard x (stored S now d (with-listened after s)) s) e
-        ∙ (unfold after in into s p);
-    ready = record { kept-waiting = c .yields .kept; lent-waiting = c .yields .lent; kept-listened = l .kept };
-  }
-    where
-      into : (s : State) → s .waiting ≡ waits m
-          → stored S now d (with-listened (listenedOf (r .listened) heard′) s)
-          ≡ record { state = with-waiting (waitingOf n′ rows′ store′) (with-listened (listenedOf (r .listened) heard′) s); answer = kept a; released = [] }
-      into s p =
-          let x = ap (waiting.stored (S .merge) (dmx now d)) p in
-          let u : waiting.stored (S .merge) (dmx now d) (s .waiting) .0 ≡ waitingOf n′ rows′ store′ = ap (λ (y : List Dmx × StoreAnswer). y .0) x ∙ sym (c .yields .view) in
-          let v : waiting.stored (S .merge) (dmx now d) (s .waiting) .1 ≡ a = ap (λ (y : List Dmx × StoreAnswer). y .1) x ∙ sym (c .answers) in
-          λ i. record { state = with-waiting (u i) (with-listened (listenedOf (r .listened) heard′) s); answer = kept (v i); released = [] }
-
-  -- values within 513 are taken
-  pub holds-called : (n′ : ℕ) (rows′ : Rows) (store′ : List ℕ) (c : StoreCall) → r .answer ≡ listen.Listening → length (d .values) ≤ 513
-      → StoreCalled (m .count) (m .rows) (m .store) (S .merge) (dmx now d) rows′ store′ n′ c
-      → Holds S now d m (lentOf n′ (r .listened) rows′ store′ heard′) (storeSaid c)
-  holds-called n′ rows′ store′ c e f k =
-      subst (λ (a : StepAnswer). Holds S now d m (lentOf n′ (r .listened) rows′ store′ heard′) a)
-      (ap storeSaid (sym (taken-is (m .count) (m .rows) (m .store) (S .merge) (dmx now d) rows′ store′ n′ f c k)))
-      (holds-stored n′ rows′ store′ (waiting.stored (S .merge) (dmx now d) (waits m) .1) e (taken-call (m .count) (m .rows) (m .store) (S .merge) (dmx now d) rows′ store′ n′ f c k))
-
--- ── an accepted packet ──
-module _ (S : Settings) (now : ℕ) (d : model.DataPacket) (m : Lent) (out : List ℕ) where
-  pub accepts-held : (m′ : Lent) (a : StepAnswer) → (d .address ≡ 0 → ⊥) → Holds S now d m m′ a → Accepts S now d m out m′ out a
-  unfolding accepted records
-  accepts-held m′ a z h = record {
+  pub takes-ended : (r′ : Receiver) (n : sequences.Lent) (pages : Rows) (universes : List ℕ) (a : StepAnswer) → d .preview && not (S .«process_preview_data») ≡ false → d .terminated ≡ true
+      → Ends (d .cid) (d .universe) r m r′ (with-sequence-rows n (with-discovery-rows (m .sources) (m .names) pages universes m))
+      → cond (S .«announce_stream_termination») (says.UniverseTerminated (d .cid) (d .universe)) says.Nothing ≡ a
+      → Takes S now (data-packet d) r m out r′ (with-sequence-rows n (with-discovery-rows (m .sources) (m .names) pages universes m)) out a
+  takes-ended r′ n pages universes a e f t g = record {
     released = [];
-    outcome-is = λ s p q. rw (ne-eqb (d .address) 0 z) (h .outcome-is s p q);
-    written = refl;
-    ready = h .ready;
+    outcome-is = data-ended S now d (stateOf r m) e f ∙ (λ i. outcome (t .state-is d refl refl i) (g i));
+    written = sym (over-none out);
+    kept = t .kept;
+    lent-waiting = lent-none (m .rows) (m .store);
+    lent-pages = t .lent-pages;
   }
 
-  released-now : (ds : List Dmx) (bytes : ℕ) → d .address ≡ 0 → cleared (d .universe) (waits m) .0 ≡ ds → length (records (dmx now d ∷ [])) ≡ bytes
-      → (s : State) → s .waiting ≡ waits m → s .listened ≡ hears m
-      → accepted S now d s ≡ record { state = with-waiting ds (with-listened (hears m) s); answer = says.Released 1 bytes; released = dmx now d ∷ [] }
-  unfolding accepted unsynchronised release
-  released-now ds bytes z e b s p q =
-      let w : cleared (d .universe) (s .waiting) .0 ≡ ds = ap (λ (x : List Dmx). cleared (d .universe) x .0) p ∙ e in
-      rw (eq-eqb (d .address) 0 z)
-      (λ i. record {
-        state = record { data-pairs = s .data-pairs; sync-pairs = s .sync-pairs; waiting = w i; listened = q i; discovered = s .discovered };
-        answer = says.Released 1 (b i);
-        released = dmx now d ∷ [];
-      })
-
-  pub accepts-released : (n′ : ℕ) (rows′ : Rows) (store′ out′ : List ℕ) (bytes : ℕ) → d .address ≡ 0 → listening.Kept (m .listened) (m .heard)
-      → Releases now d (m .count) (m .rows) (m .store) out n′ rows′ store′ out′ bytes
-      → Accepts S now d m out (lentOf n′ (m .listened) rows′ store′ (m .heard)) out′ (says.Released 1 bytes)
-  accepts-released n′ rows′ store′ out′ bytes z k r = record {
-    released = dmx now d ∷ [];
-    outcome-is = released-now (waitingOf n′ rows′ store′) bytes z (sym (r .yields .view)) (sym (r .byte-count));
-    written = r .written;
-    ready = record { kept-waiting = r .yields .kept; lent-waiting = r .yields .lent; kept-listened = k };
+  pub takes-data : (t : DataTable) (dp ds : Rows) (w : Waiting) (l : Listened) (rows : Rows) (store heard out′ : List ℕ) (a : StepAnswer)
+      → d .preview && not (S .«process_preview_data») ≡ false → d .terminated ≡ false → listens (d .universe) (stateOf r m .listened) ≡ true
+      → Arrives S now d (rowsOf (r .sequences .«data» .table) (m .data-pairs) (m .data-sources)) (lentOf (r .waiting .count) (r .listened) (m .rows) (m .store) (m .heard)) out
+      (rowsOf (t .table) dp ds) (lentOf (w .count) l rows store heard) out′ a
+      → Takes S now (data-packet d) r m out (record { sequences = record { «data» = t; sync = r .sequences .sync }; waiting = w; listened = l; discovery = r .discovery })
+      (with-sequence-rows (sequences.lent dp ds (m .sync-pairs) (m .sync-sources)) (with-waiting-rows rows store (with-listened-rows heard m))) out′ a
+  takes-data t dp ds w l rows store heard out′ a e f g x = record {
+    released = x .released;
+    outcome-is = data-heard S now d (stateOf r m) e f g ∙ x .outcome-is (stateOf r m) refl refl refl;
+    written = x .written;
+    kept = λ k. record {
+      kept-sequences = record { kept-data = x .kept; kept-sync = k .kept-sequences .kept-sync };
+      kept-waiting = λ h. x .ready .kept-waiting;
+      kept-listened = x .ready .kept-listened;
+      kept-discovery = k .kept-discovery;
+    };
+    lent-waiting = x .ready .lent-waiting;
+    lent-pages = pool.lent-none (m .universes);
   }
-
--- ── arrivals ──
-stays : (a : Checked) (go stay : Outcome) → pairs.accepted a ≡ false → if-accepted a go stay ≡ stay
-unfolding if-accepted
-stays a go stay e = rw e
-
-goes : (a : Checked) (go stay : Outcome) → pairs.accepted a ≡ true → if-accepted a go stay ≡ go
-unfolding if-accepted
-goes a go stay e = rw e
-
-module _ (S : Settings) (now : ℕ) (d : model.DataPacket) (k k′ : Counted) (a : Checked)
-    (f : counted.Follows (k′ .table) (k′ .pairs) (k′ .sources) a (check (S .«source_limit») (S .«announce_timeout») (data-pair now d) (counts k))) where
-  -- the arrival at any state with this table
-  data-said : (s : State) → s .data-pairs ≡ counts k
-      → data-arrival S now d s ≡ if-accepted a (accepted S now d (with-data (counts k′) s)) (outcome (with-data (counts k′) s) (stopped a))
-  unfolding data-arrival
-  data-said s e =
-      let x = ap (check (S .«source_limit») (S .«announce_timeout») (data-pair now d)) e in
-      let t : check (S .«source_limit») (S .«announce_timeout») (data-pair now d) (s .data-pairs) .0 ≡ counts k′ = ap (λ (y : Table × Checked). y .0) x ∙ sym (f .table-is) in
-      let b : check (S .«source_limit») (S .«announce_timeout») (data-pair now d) (s .data-pairs) .1 ≡ a = ap (λ (y : Table × Checked). y .1) x ∙ sym (f .answer-is) in
-      λ i. if-accepted (b i) (accepted S now d (with-data (t i) s)) (outcome (with-data (t i) s) (stopped (b i)))
-
-  pub arrives-accepted : (m m′ : Lent) (out out′ : List ℕ) (w : StepAnswer) → pairs.accepted a ≡ true → Accepts S now d m out m′ out′ w
-      → Arrives S now d k m out k′ m′ out′ w
-  arrives-accepted m m′ out out′ w e c = record {
-    released = c .released;
-    outcome-is = λ s p q r. data-said s p ∙ goes a _ _ e ∙ c .outcome-is (with-data (counts k′) s) q r;
-    written = c .written;
-    kept = f .kept;
-    ready = c .ready;
-  }
-
-  pub arrives-stopped : (m : Lent) (out : List ℕ) → pairs.accepted a ≡ false → entries.Kept (m .count) (m .rows) (m .store) → listening.Kept (m .listened) (m .heard)
-      → Arrives S now d k m out k′ m out (stopped a)
-  unfolding records
-  arrives-stopped m out e kw kl = record {
-    released = [];
-    outcome-is = λ s p q r.
-        data-said s p ∙ stays a _ _ e
-        ∙ (λ i. outcome (record { data-pairs = counts k′; sync-pairs = s .sync-pairs; waiting = q i; listened = r i; discovered = s .discovered }) (stopped a));
-    written = refl;
-    kept = f .kept;
-    ready = record { kept-waiting = kw; lent-waiting = lent-none (m .rows) (m .store); kept-listened = kl };
-  }
-
--- ── synchronisation ──
-release-said : (ds : List Dmx) (s : State) (n b : ℕ) → n ≡ length ds → b ≡ length (records ds)
-    → release ds s ≡ record { state = s; answer = releaseSaid (releasing.Released n b); released = ds }
-unfolding release
-release-said [] s n b p q = λ i. record { state = s; answer = releaseSaid (releasing.Released (sym p i) b); released = [] }
-release-said (x ∷ ds) s n b p q =
-    let e : _≡_ {A = StepAnswer} (says.Released (length (x ∷ ds)) (length (records (x ∷ ds)))) (releaseSaid (releasing.Released n b)) =
-    (λ i. says.Released (sym p i) (sym q i)) ∙ sym (rw (ne-eqb n 0 (omega arith))) in
-    λ i. record { state = s; answer = e i; released = x ∷ ds }
-
-module _ (S : Settings) (now : ℕ) (y : model.SyncPacket) (k k′ : Counted) (a : Checked)
-    (f : counted.Follows (k′ .table) (k′ .pairs) (k′ .sources) a (check (S .«source_limit») (S .«announce_timeout») (sync-pair now y) (counts k))) where
-  sync-said : (s : State) → s .sync-pairs ≡ counts k
-      → sync-arrival S now y s ≡ if-accepted a (synchronise now (y .address) (with-sync (counts k′) s)) (outcome (with-sync (counts k′) s) (stopped a))
-  unfolding sync-arrival
-  sync-said s e =
-      let x = ap (check (S .«source_limit») (S .«announce_timeout») (sync-pair now y)) e in
-      let t : check (S .«source_limit») (S .«announce_timeout») (sync-pair now y) (s .sync-pairs) .0 ≡ counts k′ = ap (λ (z : Table × Checked). z .0) x ∙ sym (f .table-is) in
-      let b : check (S .«source_limit») (S .«announce_timeout») (sync-pair now y) (s .sync-pairs) .1 ≡ a = ap (λ (z : Table × Checked). z .1) x ∙ sym (f .answer-is) in
-      λ i. if-accepted (b i) (synchronise now (y .address) (with-sync (t i) s)) (outcome (with-sync (t i) s) (stopped (b i)))
-
-  module _ (n : ℕ) (rows : Rows) (store out : List ℕ) where
-    taken-out : (n′ : ℕ) (rows′ : Rows) (store′ : List ℕ) (c b : ℕ) → left (y .address) (waitingOf n rows store) ≡ waitingOf n′ rows′ store′
-        → c ≡ length (waiting.released now (y .address) (waitingOf n rows store)) → b ≡ length (records (waiting.released now (y .address) (waitingOf n rows store)))
-        → (s : State) → s .waiting ≡ waitingOf n rows store
-        → synchronise now (y .address) s ≡ record { state = with-waiting (waitingOf n′ rows′ store′) s; answer = releaseSaid (releasing.Released c b); released = waiting.released now (y .address) (waitingOf n rows store) }
-    unfolding synchronise
-    taken-out n′ rows′ store′ c b v p q s e =
-        (λ i. release (waiting.released now (y .address) (e i)) (with-waiting (left (y .address) (e i)) s))
-        ∙ release-said (waiting.released now (y .address) (waitingOf n rows store)) (with-waiting (left (y .address) (waitingOf n rows store)) s) c b p q
-        ∙ (λ i. record { state = with-waiting (v i) s; answer = releaseSaid (releasing.Released c b); released = waiting.released now (y .address) (waitingOf n rows store) })
-
-    pub synchronises : (n′ : ℕ) (rows′ : Rows) (store′ out′ : List ℕ) (c b : ℕ) → pairs.accepted a ≡ true
-        → Yields rows store rows′ store′ n′ (left (y .address) (waitingOf n rows store))
-        → Writing (waiting.released now (y .address) (waitingOf n rows store)) out out′ c b
-        → Synchronises S now y k n rows store out k′ n′ rows′ store′ out′ (releaseSaid (releasing.Released c b))
-    synchronises n′ rows′ store′ out′ c b e v w = record {
-      released = waiting.released now (y .address) (waitingOf n rows store);
-      outcome-is = λ s p q. sync-said s p ∙ goes a _ _ e ∙ taken-out n′ rows′ store′ c b (sym (v .view)) (w .record-count) (w .byte-count) (with-sync (counts k′) s) q;
-      written = w .written;
-      kept = f .kept;
-      kept-waiting = v .kept;
-      lent-waiting = v .lent;
-    }
-
-    -- an output with room is written
-    pub synchronises-called : (n′ : ℕ) (rows′ : Rows) (store′ out′ : List ℕ) (r : ReleaseAnswer) → pairs.accepted a ≡ true → 35072 ≤ length out
-        → ReleaseCalled n rows store now (y .address) out rows′ store′ out′ n′ r
-        → Synchronises S now y k n rows store out k′ n′ rows′ store′ out′ (releaseSaid r)
-    synchronises-called n′ rows′ store′ out′ r e f c =
-        let ds = waiting.released now (y .address) (waitingOf n rows store) in
-        subst (λ (w : StepAnswer). Synchronises S now y k n rows store out k′ n′ rows′ store′ out′ w)
-        (ap releaseSaid (sym (released-is n rows store now (y .address) out rows′ store′ out′ n′ f r c)))
-        (synchronises n′ rows′ store′ out′ (length ds) (length (records ds)) e
-        (released-leaves n rows store now (y .address) out rows′ store′ out′ n′ f r c)
-        (released-writes n rows store now (y .address) out rows′ store′ out′ n′ f r c))
-
-    pub synchronises-stopped : pairs.accepted a ≡ false → entries.Kept n rows store → Synchronises S now y k n rows store out k′ n rows store out (stopped a)
-    unfolding records
-    synchronises-stopped e kw = record {
-      released = [];
-      outcome-is = λ s p q.
-          sync-said s p ∙ stays a _ _ e
-          ∙ (λ i. outcome (record { data-pairs = s .data-pairs; sync-pairs = counts k′; waiting = q i; listened = s .listened; discovered = s .discovered }) (stopped a));
-      written = refl;
-      kept = f .kept;
-      kept-waiting = kw;
-      lent-waiting = lent-none rows store;
-    }
-
--- ── the poll ──
--- what follows the timeouts of both tables
-spread : ℕ → State → Numbers × Option Key → State × Option Key
-spread now s (n, some k) = (with-data (n .data-table) (with-sync (n .sync-table) s), some k)
-spread now s (n, none) = poll-waiting now (with-data (n .data-table) (with-sync (n .sync-table) s))
-
-poll-spread : (S : Settings) (now : ℕ) (s : State) → poll S now s ≡ spread now s (timeouts (S .«announce_timeout») now (numbers (s .data-pairs) (s .sync-pairs)))
-poll-spread S now s = by-data (sweep (S .«announce_timeout») now (s .data-pairs)) refl
-  where
-    by-sync : (d : Table) (r : Table × Option Key) → sweep (S .«announce_timeout») now (s .sync-pairs) ≡ r
-        → poll-sync S now (with-data d s) ≡ spread now s (timeouts-sync d r)
-    by-sync d (y, some k) e = unfold poll-sync spread timeouts-sync in (rw (e, poll-sync) (ap (λ (r : Table × Option Key). (with-sync (r .0) (with-data d s), some k)) e))
-    by-sync d (y, none) e = unfold poll-sync spread timeouts-sync in (rw (e, poll-sync) (ap (λ (r : Table × Option Key). poll-waiting now (with-sync (r .0) (with-data d s))) e))
-
-    by-data : (r : Table × Option Key) → sweep (S .«announce_timeout») now (s .data-pairs) ≡ r
-        → poll S now s ≡ spread now s (timeouts (S .«announce_timeout») now (numbers (s .data-pairs) (s .sync-pairs)))
-    by-data (d, some k) e = unfold poll spread timeouts timeouts-data in (rw (e, poll) (ap (λ (r : Table × Option Key). (with-data (r .0) s, some k)) e))
-    by-data (d, none) e = unfold poll timeouts timeouts-data in (rw (e, poll) (ap (λ (r : Table × Option Key). poll-sync S now (with-data (r .0) s)) e ∙ by-sync d (sweep (S .«announce_timeout») now (s .sync-pairs)) refl))
-
-module _ (S : Settings) (now : ℕ) (q : SequenceNumbering) (m : numbered.Lent) (n : ℕ) (rows : Rows) (store : List ℕ)
-    (q′ : SequenceNumbering) (m′ : numbered.Lent) (a : SweepAnswer)
-    (f : numbered.Follows q′ m′ a (numbered.answered (timeouts (S .«announce_timeout») now (numbered.numbersOf q m)))) where
-  -- the timeouts, with their note
-  checked-by : (o : Option Key) → timeouts (S .«announce_timeout») now (numbered.numbersOf q m) .1 ≡ o → (s : State)
-      → s .data-pairs ≡ numbered.dataOf q m → s .sync-pairs ≡ numbered.syncOf q m → poll S now s ≡ spread now s (numbered.numbersOf q′ m′, o)
-  checked-by o e s x y =
-      poll-spread S now s
-      ∙ (λ i. spread now s (timeouts (S .«announce_timeout») now (numbers (x i) (y i))))
-      ∙ ap (spread now s) (λ i. (sym (f .numbers-are) i, e i))
-
-  pub polls-told : (c : Cid) (u : ℕ) → a ≡ TimedOut c u → entries.Kept n rows store
-      → Polls S now q m n rows store q′ m′ n rows store (TimedOut c u)
-  polls-told c u e kw =
-      let o = answer-some (timeouts (S .«announce_timeout») now (numbered.numbersOf q m) .1) c u (sym e ∙ f .answer-is) in
-      record {
-        timed-out = some (key c u);
-        answer-is = refl;
-        state-is = λ s x y z. checked-by (some (key c u)) o s x y
-            ∙ (unfold spread in (λ i. (record { data-pairs = numbered.dataOf q′ m′; sync-pairs = numbered.syncOf q′ m′; waiting = z i; listened = s .listened; discovered = s .discovered }, some (key c u))));
-        kept = f .kept;
-        kept-waiting = kw;
-        lent-waiting = lent-none rows store;
-      }
-
-  pub polls-quiet : (n′ : ℕ) (rows′ : Rows) (store′ : List ℕ) → a ≡ Quiet → SweptCall n rows store now rows′ store′ n′
-      → Polls S now q m n rows store q′ m′ n′ rows′ store′ Quiet
-  polls-quiet n′ rows′ store′ e c =
-      let o = answer-none (timeouts (S .«announce_timeout») now (numbered.numbersOf q m) .1) (sym e ∙ f .answer-is) in
-      record {
-        timed-out = none;
-        answer-is = refl;
-        state-is = λ s x y z. checked-by none o s x y
-            ∙ (unfold spread poll-waiting in (λ i. (record { data-pairs = numbered.dataOf q′ m′; sync-pairs = numbered.syncOf q′ m′; waiting = (ap (waiting.swept now) z ∙ sym (c .yields .view)) i; listened = s .listened; discovered = s .discovered }, none)));
-        kept = f .kept;
-        kept-waiting = c .yields .kept;
-        lent-waiting = c .yields .lent;
-      }

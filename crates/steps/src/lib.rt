@@ -1,420 +1,456 @@
-// The parts of a step that follow the poll: what a packet makes of the tables that it touches. The receiver puts them together.
+// Document 01, 'The receiver', the parts of a step: its opening (lengths, then the poll), and what each kind of packet does behind it.
 ghost use mathlib.Core.Path.{_≡_};
-ghost use Prim.Native.Nat.{_≤_};
+ghost use mathlib.Core.Bool.{not, _&&_};
+ghost use mathlib.Core.List.{List};
+ghost use Prim.Native.Nat.{ℕ, _≤_};
 ghost use lib.ListN.{length};
-ghost use Rattle.waiting_store.specs.Entries as held;
-ghost use Rattle.listening.specs.View as hearing;
-ghost use Rattle.waiting.specs.Answers.{storeNumberOf, storeValuesOf, releaseNumberOf};
-ghost use Rattle.model.specs.Answer.{stepNumber};
-ghost use Rattle.model.specs.Step.{stopped};
-ghost use Rattle.pairs.specs.Table.{numberOf, valuesOf};
-ghost use Rattle.pair_tables.specs.View as counted;
-ghost use Rattle.sequences.specs.View as numbered;
+ghost use Rattle.waiting_store.specs.Entries as waiting;
+ghost use Rattle.listening.specs.View as listening;
+ghost use Rattle.sequences.specs.View as sequences;
+ghost use Rattle.discovery_calls.specs.View as discovery;
+ghost use Rattle.pair_tables.specs.View as pairs;
+ghost use Rattle.model.specs.Packet.{data-packet, sync-packet, discovery-packet};
+ghost use Rattle.model.specs.Step.{listed};
 ghost use Rattle.packets.specs.View.{packetOf, syncOf};
-ghost use Rattle.steps.specs.View.{dataOf, lentOf, rowsOf, storeSaid, releaseSaid};
-ghost use Rattle.steps.specs.View.{Tells, Releases, Holds, Accepts, Arrives, Synchronises, Polls};
-use listening::Listened;
+ghost use Rattle.laws.specs.Lent.{untouched};
+ghost use Rattle.receiver.specs.View.{Memory, with-discovery-rows, KeptWaiting, Kept};
+ghost use Rattle.receiver.specs.Lent.{sequences-in, lent, sequences-lent, sync-lent, waiting-lent, listened-lent, discovery-lent};
+ghost use Rattle.waiting.specs.Records.{most-bytes};
+ghost use Rattle.merge.specs.Merge.{most-values};
+ghost use Rattle.discovery.specs.Discovery.{most-name, most-universes};
+ghost use Rattle.packets.specs.View.{announcementOf};
+ghost use Rattle.lengths.specs.Finds.{longOf};
+ghost use Rattle.steps.specs.View.{courseOf, Opens, Ends, called, Tells, Takes};
+use arrivals::arrive_data;
+use arrivals::arrive_sync;
+use arrivals::poll;
+use discovery::PageAnswer;
+use discovery::PageCall;
+use discovery_rows::HeadRows;
+use discovery_rows::NameRows;
+use discovery_rows::PageRows;
+use lengths::Measured;
+use lengths::test_space;
 use listening::ListenedUniverses;
-use merge::DmxData;
-use merge::SourceCid;
-use model::ListenAnswer;
 use model::StepAnswer;
 use packets::DataPacket;
+use packets::DiscoveryPacket;
 use packets::SyncPacket;
 use pair_rows::PairRows;
 use pair_rows::SourceRows;
-use pair_tables::DataTable;
-use pair_tables::SyncTable;
-use pairs::Checked;
 use pairs::SweepAnswer;
-use pairs::is_accepted;
+use receiver::Receiver;
+use rules::Cid;
 use sequences::SequenceNumbering;
 use settings::Settings;
-use waiting::ReleaseAnswer;
-use waiting::StoreAnswer;
-use waiting::StoreCall;
-use waiting_calls::Waiting;
 use waiting_store::EntryRows;
-use waiting_store::write_record;
 
-struct PacketReleased {
-    waiting: Waiting,
-    bytes: usize,
-}
-
-struct Accepted {
-    waiting: Waiting,
-    listened: Listened,
-    answer: StepAnswer,
-}
-
-// The packet's fields as data received at this reading.
-fn dmx_data(packet: DataPacket, reading: u64) -> DmxData
-    ensures { λ r. ⌜ r ≡ dataOf packet reading ⌝ }
-{
-    let cid = packet.cid;
-    DmxData {
-        universe: packet.universe,
-        sync_uni: packet.address,
-        priority: packet.priority,
-        src_cid: SourceCid::Of(cid),
-        preview: packet.preview,
-        recv_timestamp: reading,
-    }
-}
-
-// What storing answers, as the step's answer.
-fn stored_answer(a: StoreCall) -> StepAnswer
-    ensures answer { λ r. ⌜ r ≡ storeSaid a ⌝ }
-    ensures told { λ r. ⌜ Tells r (storeNumberOf a) (storeValuesOf a) ⌝ }
-{
-    match a {
-        StoreCall::Taken(s) => match s {
-            StoreAnswer::Stored => StepAnswer::Nothing,
-            StoreAnswer::MergeRefused => StepAnswer::DmxMergeError,
-            StoreAnswer::WaitingFull => StepAnswer::WaitingFull,
-        },
-        StoreCall::TooLong(n) => StepAnswer::TooLong(n),
-    }
-}
-
-// Address 0: this universe's waiting data goes, and the packet is released.
-fn release_packet(
-    waiting: Waiting,
-    rows: &mut EntryRows,
-    store: &mut [u8],
-    reading: u64,
-    packet: DataPacket,
-    values: &[u8],
-    out: &mut [u8],
-) -> PacketReleased
-    requires { ⌜ held.Kept (waiting .count) (now rows) (now store) × (35072 ≤ length (now out)) × (length (now values) ≤ 513) ⌝ }
-    ensures { λ r. ⌜ Releases reading (packetOf packet (now (values .entry)))
-        (waiting .count) (now (rows .entry)) (now (store .entry)) (now (out .entry))
-        (r .waiting .count) (now (rows .exit)) (now (store .exit)) (now (out .exit)) (r .bytes) ⌝ }
-{
-    let c = waiting.clear_waiting_data(&mut *rows, &mut *store, packet.universe);
-    let w = c.waiting;
-    let d = dmx_data(packet, reading);
-    let n = write_record(&mut *out, 0, d, values);
-    PacketReleased {
-        waiting: w,
-        bytes: n,
-    }
-}
-
-// Another address: it is listened to, and the packet waits for its synchronisation.
-fn hold_packet(
-    waiting: Waiting,
-    listened: Listened,
-    rows: &mut EntryRows,
-    store: &mut [u8],
-    heard: &mut ListenedUniverses,
-    settings: Settings,
-    reading: u64,
-    packet: DataPacket,
-    values: &[u8],
-) -> Accepted
-    requires { ⌜ held.Kept (waiting .count) (now rows) (now store) × hearing.Kept listened (now heard) × (length (now values) ≤ 513) ⌝ }
-    ensures { λ r. ⌜ Holds settings reading (packetOf packet (now (values .entry)))
-        (lentOf (waiting .count) listened (now (rows .entry)) (now (store .entry)) (now (heard .entry)))
-        (lentOf (r .waiting .count) (r .listened) (now (rows .exit)) (now (store .exit)) (now (heard .exit))) (r .answer) ⌝ }
-{
-    let l = listened.listen_universe(&mut *heard, packet.address);
-    let next = l.listened;
-    let told = l.answer;
-    match told {
-        ListenAnswer::IllegalUniverse(u) => Accepted {
-            waiting: waiting,
-            listened: next,
-            answer: StepAnswer::IllegalUniverse(u),
-        },
-        ListenAnswer::ListenedFull => Accepted {
-            waiting: waiting,
-            listened: next,
-            answer: StepAnswer::ListenedFull,
-        },
-        ListenAnswer::Listening => {
-            let choice = settings.merge;
-            let d = dmx_data(packet, reading);
-            let s = waiting.store_waiting_data(&mut *rows, &mut *store, choice, d, values);
-            let w = s.waiting;
-            let a = s.answer;
-            let answer = stored_answer(a);
-            Accepted {
-                waiting: w,
-                listened: next,
-                answer: answer,
-            }
-        }
-    }
-}
-
-// A data packet whose sequence is stored: released at once, or held.
-fn accept_data(
-    waiting: Waiting,
-    listened: Listened,
-    rows: &mut EntryRows,
-    store: &mut [u8],
-    heard: &mut ListenedUniverses,
-    settings: Settings,
-    reading: u64,
-    packet: DataPacket,
-    values: &[u8],
-    out: &mut [u8],
-) -> Accepted
-    requires { ⌜ held.Kept (waiting .count) (now rows) (now store) × hearing.Kept listened (now heard)
-        × (35072 ≤ length (now out)) × (length (now values) ≤ 513) ⌝ }
-    ensures { λ r. ⌜ Accepts settings reading (packetOf packet (now (values .entry)))
-        (lentOf (waiting .count) listened (now (rows .entry)) (now (store .entry)) (now (heard .entry))) (now (out .entry))
-        (lentOf (r .waiting .count) (r .listened) (now (rows .exit)) (now (store .exit)) (now (heard .exit))) (now (out .exit)) (r .answer) ⌝ }
-{
-    if packet.address == 0 {
-        let p = release_packet(
-            waiting,
-            &mut *rows,
-            &mut *store,
-            reading,
-            packet,
-            values,
-            &mut *out,
-        );
-        let w = p.waiting;
-        return Accepted {
-            waiting: w,
-            listened: listened,
-            answer: StepAnswer::Released(1, p.bytes),
-        };
-    }
-    hold_packet(
-        waiting,
-        listened,
-        rows,
-        store,
-        heard,
-        settings,
-        reading,
-        packet,
-        values,
-    )
-}
-
-pub struct DataArrived {
-    pub data: DataTable,
-    pub waiting: Waiting,
-    pub listened: Listened,
+// What a step leaves and answers.
+pub struct Handled {
+    pub receiver: Receiver,
     pub answer: StepAnswer,
 }
 
-pub struct SyncArrived {
-    pub sync: SyncTable,
-    pub waiting: Waiting,
+// What lengths and poll leave, and whether they end the step.
+pub struct Opened {
+    pub receiver: Receiver,
+    pub stopped: bool,
     pub answer: StepAnswer,
 }
 
-pub struct Polled {
-    pub sequences: SequenceNumbering,
-    pub waiting: Waiting,
-    pub answer: SweepAnswer,
-}
-
-// What stops an arrival, as the step's answer.
-fn stop_answer(a: Checked) -> StepAnswer
-    ensures answer { λ r. ⌜ r ≡ stopped a ⌝ }
-    ensures told { λ r. ⌜ Tells r (numberOf a) (valuesOf a) ⌝ }
+// What a page's arrival answers, as the step's answer.
+fn listed_answer(a: PageAnswer, settings: Settings) -> StepAnswer
+    ensures { λ r. ⌜ r ≡ listed settings a ⌝ }
 {
     match a {
-        Checked::Accepted => StepAnswer::Nothing,
-        Checked::UniverseTimeout(c, u) => StepAnswer::UniverseTimeout(c, u),
-        Checked::SourcesExceeded(n) => StepAnswer::SourcesExceeded(n),
-        Checked::OutOfSequence(a, l, d) => StepAnswer::OutOfSequence(a, l, d),
-        Checked::PairsFull => StepAnswer::PairsFull,
-        Checked::SourceWithoutPairs => StepAnswer::SourceWithoutPairs,
-    }
-}
-
-// A release's answer, as the step's: nothing where none is left.
-fn release_answer(a: ReleaseAnswer) -> StepAnswer
-    ensures answer { λ r. ⌜ r ≡ releaseSaid a ⌝ }
-    ensures told { λ r. ⌜ stepNumber r ≡ releaseNumberOf a ⌝ }
-{
-    match a {
-        ReleaseAnswer::Released(records, bytes) => {
-            if records == 0 {
-                return StepAnswer::Nothing;
+        PageAnswer::Taken => StepAnswer::Nothing,
+        PageAnswer::Listed => {
+            if settings.announce_source_discovery {
+                return StepAnswer::SourceDiscovered;
             }
-            StepAnswer::Released(records, bytes)
+            StepAnswer::Nothing
         }
-        ReleaseAnswer::OutputShort(n) => StepAnswer::TooShort(n),
+        PageAnswer::PagesFull => StepAnswer::PagesFull,
     }
 }
 
-// A data packet for a listened universe: its sequence, then what an accepted packet does.
-pub fn arrive_data(
-    data: DataTable,
-    waiting: Waiting,
-    listened: Listened,
-    pairs: &mut PairRows,
-    sources: &mut SourceRows,
-    rows: &mut EntryRows,
-    store: &mut [u8],
-    heard: &mut ListenedUniverses,
-    settings: Settings,
-    reading: u64,
-    packet: DataPacket,
-    values: &[u8],
-    out: &mut [u8],
-) -> DataArrived
-    requires { ⌜ counted.Kept («data» .table) (now pairs) (now sources) × held.Kept (waiting .count) (now rows) (now store)
-        × hearing.Kept listened (now heard) × (35072 ≤ length (now out)) × (length (now values) ≤ 513) ⌝ }
-    ensures { λ r. ⌜ Arrives settings reading (packetOf packet (now (values .entry)))
-        (rowsOf («data» .table) (now (pairs .entry)) (now (sources .entry)))
-        (lentOf (waiting .count) listened (now (rows .entry)) (now (store .entry)) (now (heard .entry))) (now (out .entry))
-        (rowsOf (r .«data» .table) (now (pairs .exit)) (now (sources .exit)))
-        (lentOf (r .waiting .count) (r .listened) (now (rows .exit)) (now (store .exit)) (now (heard .exit))) (now (out .exit)) (r .answer) ⌝ }
+// What the call for a page answers, as the step's answer.
+fn called_answer(a: PageCall, settings: Settings) -> StepAnswer
+    ensures answer { λ r. ⌜ r ≡ called settings a ⌝ }
+    ensures told { λ r. ⌜ Tells a r ⌝ }
 {
-    let limit = settings.source_limit;
-    let sequence = packet.sequence;
-    let a = data.check_seq_number(
-        &mut *pairs,
-        &mut *sources,
-        limit,
-        settings.announce_timeout,
-        packet.cid,
-        packet.universe,
-        sequence,
-        reading,
-    );
-    let next = a.table;
-    let checked = a.answer;
-    if is_accepted(checked) {
-        let r = accept_data(
-            waiting,
-            listened,
-            rows,
-            store,
-            heard,
-            settings,
-            reading,
-            packet,
-            values,
-            out,
-        );
-        let w = r.waiting;
-        let l = r.listened;
-        let answer = r.answer;
-        return DataArrived {
-            data: next,
-            waiting: w,
-            listened: l,
-            answer: answer,
-        };
-    }
-    let answer = stop_answer(checked);
-    DataArrived {
-        data: next,
-        waiting: waiting,
-        listened: listened,
-        answer: answer,
+    match a {
+        PageCall::Done(p) => listed_answer(p, settings),
+        PageCall::TooLong(n) => StepAnswer::TooLong(n),
     }
 }
 
-// A synchronisation packet for a listened address: its sequence, then the release.
-pub fn arrive_sync(
-    sync: SyncTable,
-    waiting: Waiting,
-    pairs: &mut PairRows,
-    sources: &mut SourceRows,
-    rows: &mut EntryRows,
-    store: &mut [u8],
-    settings: Settings,
-    reading: u64,
-    packet: SyncPacket,
-    out: &mut [u8],
-) -> SyncArrived
-    requires { ⌜ counted.Kept (sync .table) (now pairs) (now sources) × held.Kept (waiting .count) (now rows) (now store)
-        × (35072 ≤ length (now out)) ⌝ }
-    ensures { λ r. ⌜ Synchronises settings reading (syncOf packet)
-        (rowsOf (sync .table) (now (pairs .entry)) (now (sources .entry)))
-        (waiting .count) (now (rows .entry)) (now (store .entry)) (now (out .entry))
-        (rowsOf (r .sync .table) (now (pairs .exit)) (now (sources .exit)))
-        (r .waiting .count) (now (rows .exit)) (now (store .exit)) (now (out .exit)) (r .answer) ⌝ }
+// Preview data that is not wanted.
+fn is_unwanted(preview: bool, settings: Settings) -> bool
+    ensures { λ r. ⌜ r ≡ preview && not (settings .«process_preview_data») ⌝ }
 {
-    let limit = settings.source_limit;
-    let sequence = packet.sequence;
-    let a = sync.check_seq_number(
-        &mut *pairs,
-        &mut *sources,
-        limit,
-        settings.announce_timeout,
-        packet.cid,
-        packet.address,
-        sequence,
-        reading,
-    );
-    let next = a.table;
-    let said = a.answer;
-    if is_accepted(said) {
-        let r = waiting.rtrv_waiting_data(rows, store, packet.address, reading, out);
-        let w = r.waiting;
-        let told = r.answer;
-        let answer = release_answer(told);
-        return SyncArrived {
-            sync: next,
-            waiting: w,
-            answer: answer,
-        };
+    if settings.process_preview_data {
+        return false;
     }
-    let answer = stop_answer(said);
-    SyncArrived {
-        sync: next,
-        waiting: waiting,
-        answer: answer,
-    }
+    preview
 }
 
-// Both pair tables are swept, then the waiting data; number 4 ends it.
-pub fn poll(
-    sequences: SequenceNumbering,
-    waiting: Waiting,
+// What is done with a data packet that is wanted.
+enum Course {
+    End,
+    Arrive,
+    Pass,
+}
+
+// A termination is carried out before all else; the sequence is looked at only where the universe is listened to.
+fn course_of(terminated: bool, listening: bool) -> Course
+    ensures { λ r. ⌜ r ≡ courseOf terminated listening ⌝ }
+{
+    if terminated {
+        return Course::End;
+    }
+    if listening {
+        return Course::Arrive;
+    }
+    Course::Pass
+}
+
+// 1 and 2 of a step: lent memory, the packet's own parts, then the poll.
+pub fn open(
+    receiver: Receiver,
     data_pairs: &mut PairRows,
     data_sources: &mut SourceRows,
     sync_pairs: &mut PairRows,
     sync_sources: &mut SourceRows,
     rows: &mut EntryRows,
     store: &mut [u8],
+    universes: &[u16],
     settings: Settings,
     reading: u64,
-) -> Polled
-    requires { ⌜ numbered.Kept sequences (numbered.lent (now «data_pairs») (now «data_sources») (now «sync_pairs») (now «sync_sources»))
-        × held.Kept (waiting .count) (now rows) (now store) ⌝ }
-    ensures { λ r. ⌜ Polls settings reading
-        sequences (numbered.lent (now («data_pairs» .entry)) (now («data_sources» .entry)) (now («sync_pairs» .entry)) (now («sync_sources» .entry)))
-        (waiting .count) (now (rows .entry)) (now (store .entry))
-        (r .sequences) (numbered.lent (now («data_pairs» .exit)) (now («data_sources» .exit)) (now («sync_pairs» .exit)) (now («sync_sources» .exit)))
-        (r .waiting .count) (now (rows .exit)) (now (store .exit)) (r .answer) ⌝ }
+    part: Measured,
+    out: &[u8],
+) -> Opened
+    requires sequences { ⌜ sequences.Kept (receiver .sequences) (sequences-in «data_pairs» «data_sources» «sync_pairs» «sync_sources») ⌝ }
+    requires waiting { ⌜ KeptWaiting (receiver .waiting .count) (now rows) (now store) ⌝ }
+    ensures { λ r. ⌜ ((rest : Memory) (sources names pages : List (List ℕ)) →
+        let m = sequences-lent «data_pairs» «data_sources» «sync_pairs» «sync_sources» (waiting-lent rows store
+        (untouched (with-discovery-rows sources names pages (now (universes .entry)) rest))) in
+        Opens settings reading (longOf part) receiver (m .entry) (now (out .entry)) (r .receiver) (m .exit) (r .stopped) (r .answer)) ⌝ }
 {
-    let t = sequences.check_timeouts(
+    if let Measured::TooShort(needed) = test_space(out, &*store, universes) {
+        return Opened {
+            receiver: receiver,
+            stopped: true,
+            answer: StepAnswer::TooShort(needed),
+        };
+    }
+    if let Measured::TooLong(length) = part {
+        return Opened {
+            receiver: receiver,
+            stopped: true,
+            answer: StepAnswer::TooLong(length),
+        };
+    }
+    let q = receiver.sequences;
+    let w = receiver.waiting;
+    let listened = receiver.listened;
+    let discovery = receiver.discovery;
+    let p = poll(
+        q,
+        w,
         data_pairs,
         data_sources,
         sync_pairs,
         sync_sources,
-        settings.announce_timeout,
+        rows,
+        store,
+        settings,
         reading,
     );
-    let next = t.sequences;
-    let said = t.answer;
+    let sequences = p.sequences;
+    let waiting = p.waiting;
+    let said = p.answer;
+    let next = Receiver {
+        sequences,
+        waiting,
+        listened,
+        discovery,
+    };
     let SweepAnswer::TimedOut(cid, universe) = said else {
-        let w = waiting.check_waiting_data_timeouts(rows, store, reading);
-        return Polled {
-            sequences: next,
-            waiting: w,
-            answer: SweepAnswer::Quiet,
+        return Opened {
+            receiver: next,
+            stopped: false,
+            answer: StepAnswer::Nothing,
         };
     };
-    Polled {
-        sequences: next,
-        waiting: waiting,
-        answer: SweepAnswer::TimedOut(cid, universe),
+    Opened {
+        receiver: next,
+        stopped: true,
+        answer: StepAnswer::UniverseTimeout(cid, universe),
+    }
+}
+
+// 4: a synchronisation packet.
+pub fn take_sync(
+    receiver: Receiver,
+    sync_pairs: &mut PairRows,
+    sync_sources: &mut SourceRows,
+    rows: &mut EntryRows,
+    store: &mut [u8],
+    heard: &ListenedUniverses,
+    settings: Settings,
+    reading: u64,
+    packet: SyncPacket,
+    out: &mut [u8],
+) -> Handled
+    requires sync { ⌜ pairs.Kept (receiver .sequences .sync .table) (now «sync_pairs») (now «sync_sources») ⌝ }
+    requires waiting { ⌜ waiting.Kept (receiver .waiting .count) (now rows) (now store) ⌝ }
+    requires listened { ⌜ listening.Kept (receiver .listened) (now heard) ⌝ }
+    requires room { ⌜ most-bytes ≤ length (now out) ⌝ }
+    ensures { λ r. ⌜ ((rest : Memory) →
+        let m = sync-lent «sync_pairs» «sync_sources» (waiting-lent rows store (listened-lent heard (untouched rest))) in
+        Takes settings reading (sync-packet (syncOf packet))
+        receiver (m .entry) (now (out .entry)) (r .receiver) (m .exit) (now (out .exit)) (r .answer)) ⌝ }
+{
+    let q = receiver.sequences;
+    let w = receiver.waiting;
+    let listened = receiver.listened;
+    let discovery = receiver.discovery;
+    if listened.is_listening(heard, packet.address) {
+        let data = q.data;
+        let y = q.sync;
+        let a = arrive_sync(
+            y,
+            w,
+            sync_pairs,
+            sync_sources,
+            rows,
+            store,
+            settings,
+            reading,
+            packet,
+            out,
+        );
+        let sync = a.sync;
+        let waiting = a.waiting;
+        let answer = a.answer;
+        let sequences = SequenceNumbering { data, sync };
+        let next = Receiver {
+            sequences,
+            waiting,
+            listened,
+            discovery,
+        };
+        return Handled {
+            receiver: next,
+            answer: answer,
+        };
+    }
+    Handled {
+        receiver: receiver,
+        answer: StepAnswer::Nothing,
+    }
+}
+
+// 5: a discovery packet.
+pub fn take_discovery(
+    receiver: Receiver,
+    sources: &mut HeadRows,
+    names: &mut NameRows,
+    pages: &mut PageRows,
+    universes: &mut [u16],
+    settings: Settings,
+    reading: u64,
+    packet: DiscoveryPacket,
+    name: &[u8],
+    list: &[u16],
+) -> Handled
+    requires discovery { ⌜ discovery.Kept (receiver .discovery) (now sources) (now names) (now pages) (now universes) ⌝ }
+    requires name { ⌜ length (now name) ≤ most-name ⌝ }
+    requires list { ⌜ length (now list) ≤ most-universes ⌝ }
+    ensures { λ r. ⌜ ((rest : Memory) (out : List ℕ) →
+        let m = discovery-lent sources names pages universes (untouched rest) in
+        Takes settings reading (discovery-packet (announcementOf packet (now (name .entry)) (now (list .entry))))
+        receiver (m .entry) out (r .receiver) (m .exit) out (r .answer)) ⌝ }
+{
+    let sequences = receiver.sequences;
+    let waiting = receiver.waiting;
+    let listened = receiver.listened;
+    let d = receiver.discovery;
+    let a = d.page_arrives(
+        sources,
+        names,
+        pages,
+        universes,
+        reading,
+        packet.cid,
+        packet.page,
+        packet.last_page,
+        name,
+        list,
+    );
+    let discovery = a.discovery;
+    let said = a.answer;
+    let answer = called_answer(said, settings);
+    let next = Receiver {
+        sequences,
+        waiting,
+        listened,
+        discovery,
+    };
+    Handled {
+        receiver: next,
+        answer: answer,
+    }
+}
+
+// A stream that ends: its pairs go, and its universe from the listed source's pages.
+fn end_stream(
+    receiver: Receiver,
+    data_pairs: &mut PairRows,
+    data_sources: &mut SourceRows,
+    sync_pairs: &mut PairRows,
+    sync_sources: &mut SourceRows,
+    sources: &HeadRows,
+    names: &NameRows,
+    pages: &mut PageRows,
+    universes: &mut [u16],
+    cid: Cid,
+    universe: u16,
+) -> Receiver
+    requires sequences { ⌜ sequences.Kept (receiver .sequences) (sequences-in «data_pairs» «data_sources» «sync_pairs» «sync_sources») ⌝ }
+    requires discovery { ⌜ discovery.Kept (receiver .discovery) (now sources) (now names) (now pages) (now universes) ⌝ }
+    ensures { λ r. ⌜ ((rest : Memory) →
+        let m = sequences-lent «data_pairs» «data_sources» «sync_pairs» «sync_sources» (discovery-lent sources names pages universes (untouched rest)) in
+        Ends cid universe receiver (m .entry) r (m .exit)) ⌝ }
+{
+    let q = receiver.sequences;
+    let waiting = receiver.waiting;
+    let listened = receiver.listened;
+    let d = receiver.discovery;
+    let sequences = q.remove_seq_numbers(
+        data_pairs,
+        data_sources,
+        sync_pairs,
+        sync_sources,
+        cid,
+        universe,
+    );
+    let discovery = d.terminate_universe(sources, names, pages, universes, cid, universe);
+    Receiver {
+        sequences,
+        waiting,
+        listened,
+        discovery,
+    }
+}
+
+// 3: a data packet.
+pub fn take_data(
+    receiver: Receiver,
+    data_pairs: &mut PairRows,
+    data_sources: &mut SourceRows,
+    sync_pairs: &mut PairRows,
+    sync_sources: &mut SourceRows,
+    rows: &mut EntryRows,
+    store: &mut [u8],
+    heard: &mut ListenedUniverses,
+    sources: &HeadRows,
+    names: &NameRows,
+    pages: &mut PageRows,
+    universes: &mut [u16],
+    settings: Settings,
+    reading: u64,
+    packet: DataPacket,
+    values: &[u8],
+    out: &mut [u8],
+) -> Handled
+    requires { ⌜ sequences.Kept (receiver .sequences) (sequences-in «data_pairs» «data_sources» «sync_pairs» «sync_sources»)
+        × waiting.Kept (receiver .waiting .count) (now rows) (now store)
+        × listening.Kept (receiver .listened) (now heard)
+        × discovery.Kept (receiver .discovery) (now sources) (now names) (now pages) (now universes)
+        × (most-bytes ≤ length (now out)) × (length (now values) ≤ most-values) ⌝ }
+    ensures { λ r.
+        let m = lent «data_pairs» «data_sources» «sync_pairs» «sync_sources» rows store heard sources names pages universes in
+        ⌜ Takes settings reading (data-packet (packetOf packet (now (values .entry))))
+        receiver (m .entry) (now (out .entry)) (r .receiver) (m .exit) (now (out .exit)) (r .answer) ⌝ }
+{
+    if is_unwanted(packet.preview, settings) {
+        return Handled {
+            receiver: receiver,
+            answer: StepAnswer::Nothing,
+        };
+    }
+    let q = receiver.sequences;
+    let w = receiver.waiting;
+    let l = receiver.listened;
+    let discovery = receiver.discovery;
+    let listening = l.is_listening(&*heard, packet.universe);
+    let course = course_of(packet.terminated, listening);
+    match course {
+        Course::End => {
+            let cid = packet.cid;
+            let next = end_stream(
+                receiver,
+                data_pairs,
+                data_sources,
+                sync_pairs,
+                sync_sources,
+                sources,
+                names,
+                pages,
+                universes,
+                cid,
+                packet.universe,
+            );
+            if settings.announce_stream_termination {
+                return Handled {
+                    receiver: next,
+                    answer: StepAnswer::UniverseTerminated(cid, packet.universe),
+                };
+            }
+            Handled {
+                receiver: next,
+                answer: StepAnswer::Nothing,
+            }
+        }
+        Course::Arrive => {
+            let d = q.data;
+            let sync = q.sync;
+            let a = arrive_data(
+                d,
+                w,
+                l,
+                data_pairs,
+                data_sources,
+                rows,
+                store,
+                heard,
+                settings,
+                reading,
+                packet,
+                values,
+                out,
+            );
+            let data = a.data;
+            let waiting = a.waiting;
+            let listened = a.listened;
+            let answer = a.answer;
+            let sequences = SequenceNumbering { data, sync };
+            let next = Receiver {
+                sequences,
+                waiting,
+                listened,
+                discovery,
+            };
+            Handled {
+                receiver: next,
+                answer: answer,
+            }
+        }
+        Course::Pass => Handled {
+            receiver: receiver,
+            answer: StepAnswer::Nothing,
+        },
     }
 }

@@ -11,10 +11,10 @@ use native.Mathlib.Omega.{arith}
 use lib.Dec.{ltb, leb}
 use lib.ListN.{length, length-append}
 use borrow.Author.Tests.{leb-false, ne-eqb, eqb-true}
-use Rattle.table.specs.Cases.{split, found}
-use Rattle.table.specs.Order.{ℕ-order, tri, keyed}
-use Rattle.table.specs.Table.{keep, find, store, remove, Ascending, other-than}
-use Rattle.table.specs.Table.{keep-keep, keep-idem, keep-implied, length-keep, find-store-same, find-store-other, find-keep, find-kept, ascending-store, ascending-keep, ascending-remove, length-store-new, length-store-known, remove-keep, remove-absent, store-store, store-again, keep-store, keep-store-skip, find-key}
+use Rattle.laws.specs.Cases.{split, found}
+use Rattle.laws.specs.Order.{ℕ-order, tri, keyed}
+use Rattle.laws.specs.Table.{keep, find, store, remove, Ascending, other-than}
+use Rattle.laws.specs.Table.{keep-keep, keep-idem, keep-implied, length-keep, find-store-same, find-store-other, find-keep, find-kept, ascending-store, ascending-keep, ascending-remove, length-store-new, length-store-known, remove-keep, remove-absent, store-store, store-again, keep-store, keep-store-skip, find-key}
 use Rattle.rules.specs.Age.{expired}
 use Rattle.rules.specs.Bytes.{bigEndian, length-bigEndian}
 use Rattle.settings.specs.declared.MergeChoice.{MergeChoice}

@@ -7,7 +7,7 @@ use mathlib.Core.List.{List, [], _∷_}
 use Prim.Native.Nat.{ℕ, _≤_}
 use lib.Dec.{ltb, leb, eqb}
 use lib.ListN.{length}
-use Rattle.table.specs.Table.{keep, find, store, remove, Ascending}
+use Rattle.laws.specs.Table.{keep, find, store, remove, Ascending}
 use Rattle.rules.specs.Age.{expired}
 use Rattle.rules.specs.Answer.{Value}
 use Rattle.settings.specs.declared.MergeChoice.{MergeChoice}

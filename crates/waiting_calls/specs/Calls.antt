@@ -11,12 +11,12 @@ use lib.ListN.{length, take, drop, getD, set, replicate, length-take, List·getD
 use lib.Seq.{getD-take}
 use borrow.Author.Tests.{le-leb, lt-leb, lt-ltb, le-ltb, ltb-true, ltb-false}
 use denote.Ref as ref
-use Rattle.table.specs.Cases.{split, clash}
-use Rattle.table.specs.Lent.{Part}
-use Rattle.table.specs.Order.{ℕ-order}
-use Rattle.table.specs.Table.{keep, any, store as put, remove, Ascending, keep-all, remove-absent}
-use Rattle.table.specs.Place.{prefix, prefix-le, place, insertAt, removeAt, absent-end, absent, present, store-insert, store-replace, remove-place}
-use Rattle.table.specs.Arrays.{replace}
+use Rattle.laws.specs.Cases.{split, clash}
+use Rattle.laws.specs.Lent.{Part}
+use Rattle.laws.specs.Order.{ℕ-order}
+use Rattle.laws.specs.Table.{keep, any, store as put, remove, Ascending, keep-all, remove-absent}
+use Rattle.laws.specs.Place.{prefix, prefix-le, place, insertAt, removeAt, absent-end, absent, present, store-insert, store-replace, remove-place}
+use Rattle.laws.specs.Arrays.{replace}
 use Rattle.settings.specs.declared.MergeChoice.{MergeChoice}
 use Rattle.merge.specs.declared.DmxData.{DmxData}
 use Rattle.merge.specs.Merge.{Dmx, most-values}

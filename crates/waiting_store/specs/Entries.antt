@@ -9,10 +9,10 @@ use native.Mathlib.Nat.{mod-eq-of-lt}
 use lib.Dec.{ltb, eqb}
 use lib.ListN.{length, take, drop, getD, set, length-set, length-take, length-drop}
 use lib.Seq.{take-append-seam, take-append-le, take-take, drop-at, length-take-le, drop-drop}
-use Rattle.table.specs.Cases.{split}
-use Rattle.table.specs.Table.{Ascending, any}
-use Rattle.table.specs.Place.{prefix}
-use Rattle.table.specs.Parts.{pasted, pasted-front, drop-pasted, length-pasted, pasted-shift}
+use Rattle.laws.specs.Cases.{split}
+use Rattle.laws.specs.Table.{Ascending, any}
+use Rattle.laws.specs.Place.{prefix}
+use Rattle.laws.specs.Parts.{pasted, pasted-front, drop-pasted, length-pasted, pasted-shift}
 use Rattle.rules.specs.declared.Cid.{Cid}
 use Rattle.merge.specs.declared.DmxData.{DmxData}
 use Rattle.merge.specs.declared.SourceCid.{SourceCid}

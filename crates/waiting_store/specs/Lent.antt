@@ -4,7 +4,7 @@ use mathlib.Core.List.{List}
 use Prim.Native.Nat.{ℕ}
 use denote.Ref.{now}
 use denote.Triple.Both.{Both}
-use Rattle.table.specs.Lent.{Part}
+use Rattle.laws.specs.Lent.{Part}
 use Rattle.merge.specs.Merge.{Dmx}
 use Rattle.waiting_store.specs.Entries.{entries, waitingOf}
 use Rattle.waiting_store.specs.Posts.{Changed, Held}

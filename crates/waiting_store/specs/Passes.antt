@@ -8,10 +8,10 @@ use native.Mathlib.Omega.{arith}
 use native.Mathlib.Numerals.{add-one}
 use lib.ListN.{length, take, drop, getD, set}
 use lib.Seq.{take-take}
-use Rattle.table.specs.Table.{keep}
-use Rattle.table.specs.Place.{insertAt, removeAt}
-use Rattle.table.specs.Arrays.{spent, move, compact-keep, compact-drop}
-use Rattle.table.specs.Gap.{gap, gap-start, gap-move, gap-fill}
+use Rattle.laws.specs.Table.{keep}
+use Rattle.laws.specs.Place.{insertAt, removeAt}
+use Rattle.laws.specs.Arrays.{spent, move, compact-keep, compact-drop}
+use Rattle.laws.specs.Gap.{gap, gap-start, gap-move, gap-fill}
 use Rattle.merge.specs.declared.DmxData.{DmxData}
 use Rattle.merge.specs.Merge.{Dmx}
 use Rattle.waiting.specs.Waiting.{capacity}

@@ -9,9 +9,9 @@ use native.Mathlib.Omega.{arith}
 use lib.Dec.{ltb, eqb}
 use lib.ListN.{length, take, drop, getD, set}
 use borrow.Author.Tests.{ltb-true}
-use Rattle.table.specs.Order.{ℕ-order, tri}
-use Rattle.table.specs.Place.{prefix}
-use Rattle.table.specs.Parts.{pasted}
+use Rattle.laws.specs.Order.{ℕ-order, tri}
+use Rattle.laws.specs.Place.{prefix}
+use Rattle.laws.specs.Parts.{pasted}
 use Rattle.rules.specs.Age.{expired}
 use Rattle.merge.specs.declared.DmxData.{DmxData}
 use Rattle.merge.specs.Merge.{Dmx, most-values}

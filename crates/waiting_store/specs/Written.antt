@@ -8,10 +8,10 @@ use native.Mathlib.Omega.{arith}
 use native.Mathlib.Nat.{div-one, mod-eq-of-lt}
 use lib.Dec.{eqb}
 use lib.ListN.{length, take, drop, getD, length-take, length-append}
-use Rattle.table.specs.Cases.{split}
-use Rattle.table.specs.Table.{keep, length-keep}
-use Rattle.table.specs.Arrays.{next, spent}
-use Rattle.table.specs.Parts.{pasted, pasted-none, pasted-append, pasted-front, length-pasted}
+use Rattle.laws.specs.Cases.{split}
+use Rattle.laws.specs.Table.{keep, length-keep}
+use Rattle.laws.specs.Arrays.{next, spent}
+use Rattle.laws.specs.Parts.{pasted, pasted-none, pasted-append, pasted-front, length-pasted}
 use Rattle.rules.specs.Age.{expired}
 use Rattle.rules.specs.Bytes.{bigEndian}
 use Rattle.merge.specs.declared.DmxData.{DmxData}

@@ -6,8 +6,8 @@ use mathlib.Core.List.{[]}
 use Prim.Native.Nat.{_≤_, _-_, _+_}
 use native.Mathlib.Omega.{arith}
 use lib.ListN.{length, take, drop, getD}
-use Rattle.table.specs.Table.{keep}
-use Rattle.table.specs.Arrays.{spent}
+use Rattle.laws.specs.Table.{keep}
+use Rattle.laws.specs.Arrays.{spent}
 use Rattle.discovery_reads.specs.Reads.{count-one, count-none, marked-row}
 use borrow.Author.Needs.{needs}
 use Rattle.discovery_reads.proofs.count_sources.Statement.{statement}

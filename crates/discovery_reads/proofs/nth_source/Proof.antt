@@ -6,7 +6,7 @@ use mathlib.Core.List.{[]}
 use Prim.Native.Nat.{ℕ, suc, _≤_, _-_, _+_}
 use native.Mathlib.Omega.{arith}
 use lib.ListN.{take, drop, getD}
-use Rattle.table.specs.Arrays.{spent}
+use Rattle.laws.specs.Arrays.{spent}
 use Rattle.discovery_reads.specs.Reads.{nth, nth-here, nth-past, nth-over, marked-row}
 use borrow.Author.Needs.{needs}
 use Rattle.discovery_reads.proofs.nth_source.Statement.{statement}

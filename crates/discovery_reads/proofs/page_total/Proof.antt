@@ -4,7 +4,7 @@ use mathlib.Core.Path.{sym, ap, _∙_}
 use mathlib.Core.List.{List}
 use Prim.Native.Nat.{ℕ}
 use lib.ListN.{length}
-use Rattle.table.specs.Table.{keep}
+use Rattle.laws.specs.Table.{keep}
 use Rattle.discovery_rows.specs.Rows.{owned}
 use Rattle.discovery_reads.specs.Reads.{page-number, take-within}
 use borrow.Author.Needs.{needs}

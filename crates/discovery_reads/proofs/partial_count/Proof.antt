@@ -4,7 +4,7 @@ use mathlib.Core.Path.{sym, ap, _∙_}
 use mathlib.Core.List.{List}
 use Prim.Native.Nat.{ℕ}
 use lib.ListN.{length}
-use Rattle.table.specs.Table.{keep}
+use Rattle.laws.specs.Table.{keep}
 use Rattle.discovery_reads.specs.Reads.{partial-total, take-within, marked-row}
 use borrow.Author.Needs.{needs}
 use Rattle.discovery_reads.proofs.partial_count.Statement.{statement}

@@ -4,7 +4,7 @@ use mathlib.Core.Path.{sym, subst}
 use Prim.Native.Nat.{_≤_}
 use lib.ListN.{length}
 use Rattle.discovery_calls.specs.View as found
-use Rattle.space.specs.Space.{bytes}
+use Rattle.lengths.specs.Space.{bytes}
 use Rattle.model.specs.Answer.{expiryNumber, expiryValues}
 use Rattle.model.specs.Calls.{expiry-call}
 use Rattle.receiver.specs.View.{with-discovery-rows, pool-length}

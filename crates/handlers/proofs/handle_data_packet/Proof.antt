@@ -4,8 +4,8 @@ use mathlib.Core.Path.{refl, _∙_}
 use Rattle.model.specs.Packet.{data-packet}
 use Rattle.packets.specs.View.{packetOf}
 use Rattle.receiver.specs.View.{memory}
-use Rattle.space.specs.Finds.{long-data, values-fit}
-use Rattle.taking.specs.Laws.{ready-output, ready-held, ready-found}
+use Rattle.lengths.specs.Finds.{long-data, values-fit}
+use Rattle.steps.specs.Laws.{ready-output, ready-held, ready-found}
 use Rattle.handlers.specs.Laws.{steps-stopped, steps-taken}
 use borrow.Author.Needs.{needs}
 use Rattle.handlers.proofs.handle_data_packet.Statement.{statement}

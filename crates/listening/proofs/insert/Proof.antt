@@ -7,8 +7,8 @@ use native.Mathlib.Omega.{arith}
 use Rattle.model.specs.Step.{most-listened}
 use lib.ListN.{length, take, drop, length-set}
 use lib.Seq.{take-take}
-use Rattle.table.specs.Place.{insertAt}
-use Rattle.table.specs.Arrays.{carry, laid}
+use Rattle.laws.specs.Place.{insertAt}
+use Rattle.laws.specs.Arrays.{carry, laid}
 use borrow.Author.Needs.{needs}
 use Rattle.listening.proofs.insert.Statement.{statement}
 use Rattle.listening.proofs.insert.Tie as tie

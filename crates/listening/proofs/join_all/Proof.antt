@@ -6,7 +6,7 @@ use Prim.Native.Nat.{ℕ, _≤_, _-_, _+_}
 use native.Mathlib.Omega.{arith}
 use lib.Dec.{ltb}
 use lib.ListN.{length, take, drop, getD, drop-of-length-le}
-use Rattle.table.specs.Table.{store}
+use Rattle.laws.specs.Table.{store}
 use Rattle.model.specs.State.{itself}
 use Rattle.model.specs.Step.{joined-by}
 use Rattle.listening.specs.declared.Joined.{Joined}

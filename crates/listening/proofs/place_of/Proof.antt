@@ -6,8 +6,8 @@ use native.Mathlib.Omega.{arith}
 use lib.Dec.{ltb}
 use lib.ListN.{take, drop}
 use borrow.Author.Tests.{lt-ltb, le-ltb}
-use Rattle.table.specs.Arrays.{spent, prefix-goes, prefix-stays}
-use Rattle.table.specs.Place.{place, prefix}
+use Rattle.laws.specs.Arrays.{spent, prefix-goes, prefix-stays}
+use Rattle.laws.specs.Place.{place, prefix}
 use Rattle.model.specs.State.{itself}
 use borrow.Author.Needs.{needs}
 use Rattle.listening.proofs.place_of.Statement.{statement}

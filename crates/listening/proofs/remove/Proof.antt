@@ -8,8 +8,8 @@ use native.Mathlib.Numerals.{add-one}
 use Rattle.model.specs.Step.{most-listened}
 use lib.ListN.{length, take, drop, length-set}
 use lib.Seq.{take-take}
-use Rattle.table.specs.Place.{removeAt}
-use Rattle.table.specs.Arrays.{move, spent}
+use Rattle.laws.specs.Place.{removeAt}
+use Rattle.laws.specs.Arrays.{move, spent}
 use borrow.Author.Needs.{needs}
 use Rattle.listening.proofs.remove.Statement.{statement}
 use Rattle.listening.proofs.remove.Tie as tie

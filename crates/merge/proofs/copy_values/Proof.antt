@@ -6,7 +6,7 @@ use native.Mathlib.Omega.{arith}
 use native.Mathlib.Numerals.{add-one}
 use lib.ListN.{length, length-set}
 use lib.Seq.{paste, paste-zero, paste-suc}
-use Rattle.table.specs.Parts.{paste-whole}
+use Rattle.laws.specs.Parts.{paste-whole}
 use borrow.Author.Needs.{needs}
 use Rattle.merge.proofs.copy_values.Statement.{statement}
 use Rattle.merge.proofs.copy_values.Tie as tie

@@ -7,7 +7,7 @@ use native.Mathlib.Omega.{arith}
 use lib.ListN.{length, length-set}
 use lib.Seq.{paste}
 use Rattle.merge.specs.Merge.{highest}
-use Rattle.table.specs.Parts.{pasted, part-rest}
+use Rattle.laws.specs.Parts.{pasted, part-rest}
 use Rattle.merge.specs.Returns.{highest-turn, highest-laid}
 use borrow.Author.Needs.{needs}
 use Rattle.merge.proofs.write_highest.Statement.{statement}

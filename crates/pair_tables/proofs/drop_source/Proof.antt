@@ -4,8 +4,8 @@ use mathlib.Core.Path.{_≡_, sym, _∙_}
 use mathlib.Core.Option.{some}
 use Prim.Native.Nat.{_<_}
 use native.Mathlib.Omega.{arith}
-use Rattle.table.specs.Table.{find, remove-absent}
-use Rattle.table.specs.Place.{place}
+use Rattle.laws.specs.Table.{find, remove-absent}
+use Rattle.laws.specs.Place.{place}
 use Rattle.rules.specs.declared.Cid.{Cid}
 use Rattle.rules.specs.Cid.{before, cid-order}
 use Rattle.pairs.specs.Table.{itself}

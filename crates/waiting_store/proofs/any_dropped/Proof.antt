@@ -6,8 +6,8 @@ use mathlib.Core.List.{[]}
 use Prim.Native.Nat.{_-_, _≤_}
 use native.Mathlib.Omega.{arith}
 use lib.ListN.{take, drop, getD}
-use Rattle.table.specs.Table.{any}
-use Rattle.table.specs.Arrays.{spent, any-hit, any-miss}
+use Rattle.laws.specs.Table.{any}
+use Rattle.laws.specs.Arrays.{spent, any-hit, any-miss}
 use Rattle.waiting_store.specs.Entries.{headOf}
 use Rattle.waiting_store.specs.Posts.{retained}
 use borrow.Author.Needs.{needs}

@@ -6,7 +6,7 @@ use native.Mathlib.Omega.{arith}
 use lib.ListN.{length, drop, length-set, length-drop}
 use lib.Seq.{paste, paste-zero}
 use mathlib.Core.Logic.{_⊎_, ⊎-elim, inl, inr}
-use Rattle.table.specs.Parts.{copy-turn, paste-part}
+use Rattle.laws.specs.Parts.{copy-turn, paste-part}
 use borrow.Author.Needs.{needs}
 use Rattle.waiting_store.proofs.move_block.Statement.{statement}
 use Rattle.waiting_store.proofs.move_block.Tie as tie

@@ -7,8 +7,8 @@ use Prim.Native.Nat.{_+_, _-_, _≤_}
 use native.Mathlib.Omega.{arith}
 use lib.ListN.{take, drop, getD}
 use borrow.Author.Tests.{lt-ltb, le-ltb}
-use Rattle.table.specs.Place.{prefix}
-use Rattle.table.specs.Arrays.{spent, prefix-stays, prefix-goes}
+use Rattle.laws.specs.Place.{prefix}
+use Rattle.laws.specs.Arrays.{spent, prefix-stays, prefix-goes}
 use Rattle.waiting_store.specs.Entries.{headOf}
 use Rattle.waiting_store.specs.Posts.{below}
 use borrow.Author.Needs.{needs}

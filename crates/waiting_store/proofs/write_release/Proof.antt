@@ -5,12 +5,12 @@ use Prim.Native.Nat.{_+_, _-_, _≤_, _<_}
 use native.Mathlib.Omega.{arith}
 use lib.ListN.{length, take, getD, length-take}
 use Rattle.merge.specs.Merge.{Dmx}
-use Rattle.table.specs.Parts.{pasted}
+use Rattle.laws.specs.Parts.{pasted}
 use Rattle.waiting.specs.Waiting.{capacity}
 use Rattle.waiting_store.specs.Entries.{entries, nothing, length-entries, read-entry}
 use Rattle.waiting.specs.Records.{encode, records}
 use Rattle.waiting_store.specs.Passes.{head-at}
-use Rattle.table.specs.Table.{keep, length-keep}
+use Rattle.laws.specs.Table.{keep, length-keep}
 use Rattle.waiting_store.specs.Written.{due, dueOf, Releasing, releasing-start, releasing-skip, releasing-room, releasing-write, releasing-end, release-room}
 use borrow.Author.Needs.{needs}
 use Rattle.waiting_store.proofs.write_release.Statement.{statement}

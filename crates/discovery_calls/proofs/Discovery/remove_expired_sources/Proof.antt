@@ -4,7 +4,7 @@ use mathlib.Core.Path.{_≡_, refl, sym, _∙_}
 use mathlib.Core.Bool.{not}
 use native.Mathlib.Omega.{arith}
 use lib.ListN.{take}
-use Rattle.table.specs.Place.{prefix}
+use Rattle.laws.specs.Place.{prefix}
 use Rattle.discovery.specs.Discovery.{swept}
 use Rattle.discovery_calls.specs.View.{Kept, discoveredOf}
 use Rattle.discovery_rows.specs.Lent.{Lent, lent-none, lent-then}

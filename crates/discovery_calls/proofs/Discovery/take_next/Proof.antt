@@ -5,7 +5,7 @@ use mathlib.Core.Bool.{true, false}
 use mathlib.Core.List.{[]}
 use native.Mathlib.Omega.{arith}
 use lib.ListN.{getD}
-use Rattle.table.specs.Table.{any}
+use Rattle.laws.specs.Table.{any}
 use Rattle.discovery.specs.Discovery.{Announcement, extended, complete}
 use Rattle.discovery_rows.specs.Store.{heads-of}
 use Rattle.discovery_calls.specs.View.{headsOf, Kept, present-heads}

@@ -8,7 +8,7 @@ use native.Mathlib.Omega.{arith}
 use lib.Dec.{eqb}
 use lib.ListN.{take, drop, getD, length-take}
 use lib.Seq.{set-getD, take-all}
-use Rattle.table.specs.Table.{keep, length-keep}
+use Rattle.laws.specs.Table.{keep, length-keep}
 use Rattle.discovery_rows.specs.Store.{Leaf}
 use Rattle.discovery_rows.specs.Leaves.{cut-leaf}
 use Rattle.discovery_rows.specs.Rows.{leaves, leafAt, amount, owned, Pass, pass-start, pass-row, pass-few, pass-room, pass-put, pass-end, image-whole, image-less}

@@ -6,7 +6,7 @@ use mathlib.Core.List.{List, _++_, _∷_, []}
 use Prim.Native.Nat.{_<_, _-_, _+_}
 use native.Mathlib.Omega.{arith}
 use lib.ListN.{take, drop, getD}
-use Rattle.table.specs.Table.{keep}
+use Rattle.laws.specs.Table.{keep}
 use Rattle.discovery_rows.specs.Store.{Leaf, held-by}
 use Rattle.discovery_rows.specs.Rows.{leaves, leafAt, amount, owned, Pass, pass-start, pass-row, pass-few, pass-room, pass-skip, pass-put, pass-end, image-gone, image-kept}
 use borrow.Author.Needs.{needs}

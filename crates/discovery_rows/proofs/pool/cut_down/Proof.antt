@@ -8,7 +8,7 @@ use native.Mathlib.Omega.{arith}
 use lib.Dec.{eqb}
 use lib.ListN.{length, take, drop, getD, length-set, length-append}
 use borrow.Author.Tests.{eq-eqb, ne-eqb}
-use Rattle.table.specs.Table.{keep}
+use Rattle.laws.specs.Table.{keep}
 use Rattle.discovery_rows.specs.Pool.{pushed, further, further-read, read-first, kept-more, kept-passed}
 use borrow.Author.Needs.{needs}
 use Rattle.discovery_rows.proofs.pool.cut_down.Statement.{statement}

@@ -6,7 +6,7 @@ use Prim.Native.Nat.{ℕ, _≤_, _-_, _+_}
 use native.Mathlib.Omega.{arith}
 use lib.ListN.{length, take, drop, getD, length-set}
 use lib.Seq.{take-set-le, drop-set-lt}
-use Rattle.table.specs.Arrays.{spent}
+use Rattle.laws.specs.Arrays.{spent}
 use Rattle.discovery_rows.specs.Pool.{take-less, moved-up}
 use borrow.Author.Needs.{needs}
 use Rattle.discovery_rows.proofs.pool.open_gap.Statement.{statement}

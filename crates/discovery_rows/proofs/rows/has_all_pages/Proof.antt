@@ -8,7 +8,7 @@ use native.Mathlib.Omega.{arith}
 use lib.Dec.{eqb}
 use lib.ListN.{take, drop, getD}
 use borrow.Author.Tests.{eq-eqb, ne-eqb}
-use Rattle.table.specs.Arrays.{spent, next}
+use Rattle.laws.specs.Arrays.{spent, next}
 use Rattle.discovery_rows.specs.Rows.{owned, in-turn, in-turn-skip, in-turn-row, in-turn-miss, in-turn-done, in-turn-none}
 use borrow.Author.Needs.{needs}
 use Rattle.discovery_rows.proofs.rows.has_all_pages.Statement.{statement}

@@ -6,8 +6,8 @@ use Prim.Native.Nat.{ℕ, _≤_, _-_}
 use native.Mathlib.Omega.{arith}
 use lib.ListN.{length, take, drop, length-set}
 use lib.Seq.{take-take}
-use Rattle.table.specs.Place.{insertAt}
-use Rattle.table.specs.Arrays.{carry, laid}
+use Rattle.laws.specs.Place.{insertAt}
+use Rattle.laws.specs.Arrays.{carry, laid}
 use Rattle.discovery.specs.Discovery.{capacity}
 use borrow.Author.Needs.{needs}
 use Rattle.discovery_rows.proofs.rows.insert_page.Statement.{statement}

@@ -6,8 +6,8 @@ use mathlib.Core.List.{[]}
 use Prim.Native.Nat.{_≤_, _-_, _+_}
 use native.Mathlib.Omega.{arith}
 use lib.ListN.{take, drop, getD}
-use Rattle.table.specs.Place.{prefix}
-use Rattle.table.specs.Arrays.{prefix-stays, prefix-goes, spent}
+use Rattle.laws.specs.Place.{prefix}
+use Rattle.laws.specs.Arrays.{prefix-stays, prefix-goes, spent}
 use Rattle.discovery_rows.specs.Rows.{larger}
 use borrow.Author.Needs.{needs}
 use Rattle.discovery_rows.proofs.rows.page_place.Statement.{statement}

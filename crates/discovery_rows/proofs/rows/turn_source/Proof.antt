@@ -5,7 +5,7 @@ use mathlib.Core.List.{List, _∷_, []}
 use Prim.Native.Nat.{ℕ, _-_, _+_}
 use native.Mathlib.Omega.{arith}
 use lib.ListN.{length, take, getD, set, length-set}
-use Rattle.table.specs.Place.{removeAt}
+use Rattle.laws.specs.Place.{removeAt}
 use Rattle.discovery.specs.Discovery.{capacity}
 use Rattle.discovery_rows.specs.Pool.{pushed}
 use borrow.Author.Needs.{needs}

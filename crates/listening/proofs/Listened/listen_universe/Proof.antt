@@ -6,7 +6,7 @@ use Prim.Native.Nat.{ℕ}
 use native.Mathlib.Omega.{arith}
 use lib.Dec.{ltb}
 use lib.ListN.{length}
-use Rattle.table.specs.Table.{store}
+use Rattle.laws.specs.Table.{store}
 use Rattle.model.specs.State.{itself}
 use Rattle.model.specs.declared.ListenAnswer.the-variants as listen
 use Rattle.listening.specs.declared.Joined.{Joined}

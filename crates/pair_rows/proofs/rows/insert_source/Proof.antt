@@ -6,8 +6,8 @@ use Prim.Native.Nat.{ℕ, _≤_, _-_, _+_}
 use native.Mathlib.Omega.{arith}
 use lib.ListN.{length, take, drop, length-set}
 use lib.Seq.{take-take}
-use Rattle.table.specs.Place.{insertAt}
-use Rattle.table.specs.Arrays.{carry, laid}
+use Rattle.laws.specs.Place.{insertAt}
+use Rattle.laws.specs.Arrays.{carry, laid}
 use Rattle.pairs.specs.Table.{capacity}
 use borrow.Author.Needs.{needs}
 use Rattle.pair_rows.proofs.rows.insert_source.Statement.{statement}

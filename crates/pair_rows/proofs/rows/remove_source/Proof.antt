@@ -7,8 +7,8 @@ use native.Mathlib.Omega.{arith}
 use native.Mathlib.Numerals.{add-one}
 use lib.ListN.{length, take, drop, length-set}
 use lib.Seq.{take-take}
-use Rattle.table.specs.Place.{removeAt}
-use Rattle.table.specs.Arrays.{move, spent}
+use Rattle.laws.specs.Place.{removeAt}
+use Rattle.laws.specs.Arrays.{move, spent}
 use Rattle.pairs.specs.Table.{capacity}
 use borrow.Author.Needs.{needs}
 use Rattle.pair_rows.proofs.rows.remove_source.Statement.{statement}

@@ -6,8 +6,8 @@ use mathlib.Core.List.{List, []}
 use Prim.Native.Nat.{ℕ, _≤_, _-_}
 use native.Mathlib.Omega.{arith}
 use lib.ListN.{take, drop, getD}
-use Rattle.table.specs.Table.{any, any-map}
-use Rattle.table.specs.Arrays.{spent, any-hit, any-miss}
+use Rattle.laws.specs.Table.{any, any-map}
+use Rattle.laws.specs.Arrays.{spent, any-hit, any-miss}
 use Rattle.rules.specs.declared.Cid.{Cid}
 use Rattle.rules.specs.Cid.{same}
 use Rattle.pairs.specs.declared.Pair.{Pair}

@@ -5,7 +5,7 @@ use mathlib.Core.List.{map}
 use Prim.Native.Nat.{_≤_, _-_, min}
 use native.Mathlib.Omega.{arith}
 use lib.ListN.{take, drop}
-use Rattle.table.specs.Arrays.{spent}
+use Rattle.laws.specs.Arrays.{spent}
 use Rattle.pairs.specs.declared.Pair.{Pair}
 use Rattle.pair_rows.specs.View.{pairOf, pairsOf, lower, last-reading}
 use Rattle.pair_rows.specs.Rows.{lower-next, lower-done}

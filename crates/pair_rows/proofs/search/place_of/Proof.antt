@@ -6,8 +6,8 @@ use mathlib.Core.List.{List, []}
 use Prim.Native.Nat.{ℕ, _≤_, _-_, _+_}
 use native.Mathlib.Omega.{arith}
 use lib.ListN.{take, drop, getD}
-use Rattle.table.specs.Arrays.{spent, prefix-goes, prefix-stays}
-use Rattle.table.specs.Place.{place, prefix, prefix-map}
+use Rattle.laws.specs.Arrays.{spent, prefix-goes, prefix-stays}
+use Rattle.laws.specs.Place.{place, prefix, prefix-map}
 use Rattle.pairs.specs.declared.Pair.{Pair}
 use Rattle.rules.specs.declared.Cid.{Cid}
 use Rattle.pairs.specs.Table.{key, keyOf, key-before}

@@ -5,8 +5,8 @@ use mathlib.Core.List.{[]}
 use Prim.Native.Nat.{_≤_, _-_, _+_}
 use native.Mathlib.Omega.{arith}
 use lib.ListN.{take, drop, getD}
-use Rattle.table.specs.Arrays.{spent, prefix-goes, prefix-stays}
-use Rattle.table.specs.Place.{prefix}
+use Rattle.laws.specs.Arrays.{spent, prefix-goes, prefix-stays}
+use Rattle.laws.specs.Place.{prefix}
 use Rattle.pairs.specs.declared.Pair.{Pair}
 use Rattle.rules.specs.Cid.{before}
 use Rattle.pair_rows.specs.View.{row-before}

@@ -6,7 +6,7 @@ use mathlib.Core.List.{[]}
 use Prim.Native.Nat.{_≤_, _<_, _-_, _+_}
 use native.Mathlib.Omega.{arith}
 use lib.ListN.{length, take, drop, getD}
-use Rattle.table.specs.Place.{prefix}
+use Rattle.laws.specs.Place.{prefix}
 use Rattle.rules.specs.declared.Cid.{Cid}
 use Rattle.pair_rows.specs.View.{cidOf, row-before, starts}
 use Rattle.pair_rows.specs.Sweep.{Walk, owner, walk-starts, walk-skip, walk-has, walk-on, walk-paired, walk-lonely}

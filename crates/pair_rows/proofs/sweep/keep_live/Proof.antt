@@ -5,8 +5,8 @@ use mathlib.Core.List.{[], _++_}
 use Prim.Native.Nat.{_≤_, _-_, _+_}
 use native.Mathlib.Omega.{arith}
 use lib.ListN.{length, take, drop, getD, length-set}
-use Rattle.table.specs.Table.{keep}
-use Rattle.table.specs.Arrays.{spent, compact-keep, compact-drop}
+use Rattle.laws.specs.Table.{keep}
+use Rattle.laws.specs.Arrays.{spent, compact-keep, compact-drop}
 use Rattle.pairs.specs.declared.Pair.{Pair}
 use Rattle.pairs.specs.Table.{live, capacity}
 use Rattle.pair_rows.specs.Sweep.{live-row, live-done}

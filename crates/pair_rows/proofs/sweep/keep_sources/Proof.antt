@@ -5,8 +5,8 @@ use mathlib.Core.List.{[]}
 use Prim.Native.Nat.{_≤_, _<_, _-_, _+_}
 use native.Mathlib.Omega.{arith}
 use lib.ListN.{length, take, drop, getD, length-set}
-use Rattle.table.specs.Arrays.{spent}
-use Rattle.table.specs.Place.{prefix}
+use Rattle.laws.specs.Arrays.{spent}
+use Rattle.laws.specs.Place.{prefix}
 use Rattle.rules.specs.declared.Cid.{Cid}
 use Rattle.pairs.specs.Table.{capacity}
 use Rattle.pair_rows.specs.View.{cidOf, row-before, starts}

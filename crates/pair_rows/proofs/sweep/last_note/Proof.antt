@@ -6,7 +6,7 @@ use mathlib.Core.List.{[], map}
 use Prim.Native.Nat.{ℕ, _≤_, _-_, _+_}
 use native.Mathlib.Omega.{arith}
 use lib.ListN.{take, drop, getD}
-use Rattle.table.specs.Arrays.{spent}
+use Rattle.laws.specs.Arrays.{spent}
 use Rattle.rules.specs.declared.Cid.{Cid}
 use Rattle.pairs.specs.Table.{lowest, last-noted}
 use Rattle.pair_rows.specs.View.{Rows, cidOf, pairsOf, noteOf}

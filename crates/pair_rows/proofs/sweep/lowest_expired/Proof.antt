@@ -6,7 +6,7 @@ use mathlib.Core.Option.{some}
 use Prim.Native.Nat.{_≤_, _-_, _+_}
 use native.Mathlib.Omega.{arith}
 use lib.ListN.{take, drop, getD}
-use Rattle.table.specs.Arrays.{next, spent}
+use Rattle.laws.specs.Arrays.{next, spent}
 use Rattle.pairs.specs.declared.Pair.{Pair}
 use Rattle.pairs.specs.Table.{lowest}
 use Rattle.pair_rows.specs.View.{Rows, pairOf, pairsOf, lapsed, noteOf}

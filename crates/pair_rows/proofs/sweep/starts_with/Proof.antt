@@ -3,7 +3,7 @@
 use mathlib.Core.Path.{sym, ap, _∙_}
 use native.Mathlib.Omega.{arith}
 use mathlib.Core.List.{[]}
-use Rattle.table.specs.Arrays.{next, spent}
+use Rattle.laws.specs.Arrays.{next, spent}
 use Rattle.rules.specs.Cid.{same}
 use Rattle.pairs.specs.declared.Pair.{Pair}
 use Rattle.pair_rows.specs.View.{starts}

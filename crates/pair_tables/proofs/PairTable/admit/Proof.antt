@@ -3,8 +3,8 @@
 use mathlib.Core.Path.{_≡_, sym, _∙_}
 use mathlib.Core.Option.{Option, some}
 use Prim.Native.Nat.{ℕ}
-use Rattle.table.specs.Table.{find}
-use Rattle.table.specs.Place.{place}
+use Rattle.laws.specs.Table.{find}
+use Rattle.laws.specs.Place.{place}
 use Rattle.rules.specs.declared.Cid.{Cid}
 use Rattle.rules.specs.Cid.{before}
 use Rattle.pairs.specs.declared.Checked.the-variants.{SourceWithoutPairs}

@@ -10,7 +10,7 @@ use mir.Syntax.{w8}
 use mir.Val.{toZ, ofZ}
 use mir.ValLaws.{toZ-ofZ}
 use lib.ListN.{length}
-use Rattle.table.specs.Place.{place}
+use Rattle.laws.specs.Place.{place}
 use Rattle.rules.specs.Sequence.{difference, refused}
 use Rattle.pairs.specs.declared.Pair.{Pair}
 use Rattle.pairs.specs.declared.Checked.the-variants.{OutOfSequence}

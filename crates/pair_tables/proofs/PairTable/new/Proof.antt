@@ -1,7 +1,7 @@
 -- No row is in use.
 -- Assumes nothing.
 use mathlib.Core.Path.{refl}
-use Rattle.table.specs.Table.{any}
+use Rattle.laws.specs.Table.{any}
 use native.Mathlib.Omega.{arith}
 use Rattle.pair_tables.proofs.PairTable.new.Statement.{statement}
 use Rattle.pair_tables.proofs.PairTable.new.Tie as tie

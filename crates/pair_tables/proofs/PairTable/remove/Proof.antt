@@ -6,8 +6,8 @@ use mathlib.Core.Option.{some}
 use mathlib.Core.List.{List}
 use Prim.Native.Nat.{_<_, _≤_, _-_}
 use native.Mathlib.Omega.{arith}
-use Rattle.table.specs.Table.{remove}
-use Rattle.table.specs.Place.{place}
+use Rattle.laws.specs.Table.{remove}
+use Rattle.laws.specs.Place.{place}
 use Rattle.rules.specs.Cid.{before}
 use Rattle.pairs.specs.declared.Pair.{Pair}
 use Rattle.pairs.specs.Table.{Key, key, keyOf, key-before, key-order, itself, pairAt, has, capacity}

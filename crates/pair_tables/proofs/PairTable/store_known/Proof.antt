@@ -5,7 +5,7 @@ use mathlib.Core.Option.{some}
 use Prim.Native.Nat.{_<_}
 use native.Mathlib.Omega.{arith}
 use lib.ListN.{set, length-set}
-use Rattle.table.specs.Place.{place}
+use Rattle.laws.specs.Place.{place}
 use Rattle.pairs.specs.declared.Pair.{Pair}
 use Rattle.pairs.specs.Table.{keyOf, key-before, key-order, pairAt}
 use Rattle.pair_rows.specs.View.{pairOf, pairsOf}

@@ -5,7 +5,7 @@ use mathlib.Core.Path.{sym, subst, _∙_}
 use mathlib.Core.List.{List}
 use Prim.Native.Nat.{_≤_}
 use native.Mathlib.Omega.{arith}
-use Rattle.table.specs.Table.{Ascending, ascending-keep}
+use Rattle.laws.specs.Table.{Ascending, ascending-keep}
 use Rattle.pairs.specs.declared.Pair.{Pair}
 use Rattle.pairs.specs.Table.{keyOf, key-before, key-order, live, capacity}
 use Rattle.pair_rows.specs.View.{pairsOf}

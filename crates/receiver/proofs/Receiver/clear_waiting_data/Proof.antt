@@ -2,9 +2,9 @@
 -- Assumes nothing.
 use mathlib.Core.Path.{refl}
 use denote.Enum.Declared.{tagOf}
-use Rattle.space.proofs.Measured as measures
+use Rattle.lengths.proofs.Measured as measures
 use Rattle.receiver.specs.View.{with-waiting-rows}
-use Rattle.space.specs.Finds.{short-of, not-short, room-for}
+use Rattle.lengths.specs.Finds.{short-of, not-short, room-for}
 use Rattle.receiver.specs.Further.{does-clear-short, does-clear}
 use borrow.Author.Needs.{needs}
 use Rattle.receiver.proofs.Receiver.clear_waiting_data.Statement.{statement}

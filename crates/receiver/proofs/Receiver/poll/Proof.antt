@@ -2,10 +2,10 @@
 -- Assumes nothing.
 use mathlib.Core.Path.{refl}
 use denote.Enum.Declared.{tagOf}
-use Rattle.space.proofs.Measured as measures
+use Rattle.lengths.proofs.Measured as measures
 use Rattle.sequences.specs.View.{lent}
 use Rattle.receiver.specs.View.{with-sequence-rows, with-waiting-rows}
-use Rattle.space.specs.Finds.{short-of, not-short, room-for}
+use Rattle.lengths.specs.Finds.{short-of, not-short, room-for}
 use Rattle.receiver.specs.Further.{does-poll-short, does-poll, does-poll-told}
 use borrow.Author.Needs.{needs}
 use Rattle.receiver.proofs.Receiver.poll.Statement.{statement}

@@ -2,9 +2,9 @@
 -- Assumes nothing.
 use mathlib.Core.Path.{refl}
 use denote.Enum.Declared.{tagOf}
-use Rattle.space.proofs.Measured as measures
+use Rattle.lengths.proofs.Measured as measures
 use Rattle.receiver.specs.View.{with-discovery-rows}
-use Rattle.space.specs.Finds.{short-of, not-short}
+use Rattle.lengths.specs.Finds.{short-of, not-short}
 use Rattle.receiver.specs.Further.{pool-room, does-expiry-short, does-expiry}
 use borrow.Author.Needs.{needs}
 use Rattle.receiver.proofs.Receiver.remove_expired_sources.Statement.{statement}

@@ -1,7 +1,7 @@
 -- The tests are the definition's, in its order.
 -- Assumes nothing.
 use borrow.Author.Tests.{lt-ltb, le-ltb}
-use Rattle.table.specs.Order.{before-by}
+use Rattle.laws.specs.Order.{before-by}
 use Rattle.rules.proofs.Cid.is_before.Statement.{statement}
 use Rattle.rules.proofs.Cid.is_before.Tie as tie
 use Rattle.rules.proofs.Cid.is_before.Reads as reads
