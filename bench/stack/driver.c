@@ -27,7 +27,7 @@ static uint16_t universe;
 static tamburelvi_answer answer;
 static _Alignas(64) uint8_t stack[STACK];
 static ucontext_t back, there;
-static size_t deepest[KINDS], calls[KINDS], answers[17];
+static size_t deepest[KINDS], calls[KINDS], answers[UINT8_MAX + 1];
 
 static void nothing(void) {}
 static void take_data(void) { answer = tamburelvi_take_data(&receiver, settings, reading, data, values, values_length, out, sizeof out); }
@@ -119,15 +119,18 @@ int main(void) {
         }
     }
     printf("| call | bytes of stack | calls |\n|---|---|---|\n");
-    size_t most = 0;
+    size_t most = 0, unmeasured = 0;
     for (int k = 1; k < KINDS; k++) {
         size_t used = deepest[k] - deepest[NOTHING];
         if (most < used) most = used;
+        if (used == 0) unmeasured++;
         printf("| %s | %zu | %zu |\n", names[k], used, calls[k]);
     }
     printf("\nanswers by number:");
-    for (int n = 0; n < 17; n++) if (answers[n]) printf(" %d: %zu", n, answers[n]);
+    for (int n = 0; n <= UINT8_MAX; n++) if (answers[n]) printf(" %d: %zu", n, answers[n]);
     size_t lent = sizeof receiver - sizeof receiver.header + sizeof out;
     printf("\n\nmost stack of a call: %zu bytes\nbytes lent in all: %zu (header: %zu, by value)\n", most, lent, sizeof(tamburelvi_header));
-    return most > 8192;
+    if (unmeasured) printf("FAILED: %zu kinds of call were not measured\n", unmeasured);
+    if (most > 8192) printf("FAILED: a call has used more than 8192 bytes\n");
+    return unmeasured || most > 8192;
 }

@@ -61,6 +61,10 @@ pub struct Page {
     pub last_page: u8,
 }
 
+/// Which values an answer has: those that a step of number 0 can have.
+pub const NONE: u8 = 0;
+pub const RELEASE: u8 = 2;
+
 #[derive(Clone, Copy)]
 #[repr(C)]
 pub struct Answer {

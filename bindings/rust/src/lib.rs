@@ -196,8 +196,22 @@ fn stopped<'a>(a: &ffi::Answer, name: &'a [u8]) -> Result<(), Stop<'a>> {
         13 => Stop::PagesFull,
         14 => Stop::LimitZero,
         15 => Stop::TooShort(a.first),
-        _ => Stop::SourceWithoutPairs,
+        16 => Stop::SourceWithoutPairs,
+        number => unknown(number),
     })
+}
+
+// A number that the call does not have is the library's bug or this crate's, and is not shown as another.
+fn unknown(number: u8) -> ! {
+    panic!("a bug: libexport.a answered {number}, which this crate does not know of the call")
+}
+
+// The answer of a call that nothing stops with the memory that this crate lends.
+fn unstopped(answer: ffi::Answer) -> ffi::Answer {
+    match answer.number {
+        0 => answer,
+        number => unknown(number),
+    }
 }
 
 /// How a packet joins the data that waits for its universe.
@@ -256,11 +270,14 @@ impl Receiver {
         let answer = self.kept(reply);
         stopped(&answer, &[])?;
         Ok(match answer.values {
-            0 => Step::Nothing,
-            _ => Step::Released(Records::new(
+            ffi::NONE => Step::Nothing,
+            ffi::RELEASE => Step::Released(Records::new(
                 &self.memory.out[..answer.second],
                 answer.first,
             )),
+            kind => {
+                panic!("a bug: libexport.a gave 0 with values of kind {kind}, which no step has")
+            }
         })
     }
 
@@ -431,7 +448,7 @@ impl Receiver {
                 reading,
             )
         };
-        self.kept(reply);
+        unstopped(self.kept(reply));
     }
 
     /// Listens to all of the universes, or to none.
@@ -472,7 +489,7 @@ impl Receiver {
                 universe,
             )
         };
-        self.kept(reply).first != 0
+        unstopped(self.kept(reply)).first != 0
     }
 
     pub fn clear_all_waiting_data(&mut self) {
@@ -515,7 +532,8 @@ impl Receiver {
         self.settings = limited.settings;
         match limited.number {
             0 => Ok(()),
-            _ => Err(Stop::LimitZero),
+            14 => Err(Stop::LimitZero),
+            number => unknown(number),
         }
     }
 }
@@ -523,5 +541,37 @@ impl Receiver {
 impl Default for Receiver {
     fn default() -> Receiver {
         Receiver::new()
+    }
+}
+
+#[cfg(test)]
+mod tests {
+    use super::*;
+
+    fn numbered(number: u8) -> ffi::Answer {
+        ffi::Answer {
+            first: 0,
+            second: 0,
+            hi: 0,
+            lo: 0,
+            number,
+            values: ffi::NONE,
+            difference: 0,
+        }
+    }
+
+    #[test]
+    fn every_number_is_shown_as_itself() {
+        assert_eq!(stopped(&numbered(0), &[]), Ok(()));
+        for number in 1..=16 {
+            let stop = stopped(&numbered(number), &[]).unwrap_err();
+            assert_eq!(stop.number(), number);
+        }
+    }
+
+    #[test]
+    #[should_panic(expected = "a bug: libexport.a answered 17,")]
+    fn an_unknown_number_is_a_bug() {
+        let _ = stopped(&numbered(17), &[]);
     }
 }

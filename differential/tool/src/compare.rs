@@ -1,5 +1,6 @@
 //! Runs a script on both sides and compares the answers, command by command.
 
+use std::collections::BTreeMap;
 use std::io::{Read, Write};
 use std::process::{Child, Command, Stdio};
 use std::sync::mpsc;
@@ -115,8 +116,9 @@ pub struct Counts {
     pub dumps: usize,
     pub errors: usize,
     pub releases: usize,
-    pub numbers: [usize; 17],
-    pub cuts: [usize; 17],
+    /// How often each number was seen, and how often it cut a script.
+    pub numbers: BTreeMap<usize, usize>,
+    pub cuts: BTreeMap<usize, usize>,
 }
 
 impl Counts {
@@ -125,11 +127,9 @@ impl Counts {
             "{} scripts, {} commands, of them {} dumps, {} error lines, {} releases",
             self.scripts, self.commands, self.dumps, self.errors, self.releases
         );
-        let seen = |numbers: &[usize; 17]| {
+        let seen = |numbers: &BTreeMap<usize, usize>| {
             let parts: Vec<String> = numbers
                 .iter()
-                .enumerate()
-                .filter(|(_, n)| 0 < **n)
                 .map(|(number, n)| format!("{number}: {n}"))
                 .collect();
             if parts.is_empty() {
@@ -147,7 +147,7 @@ impl Counts {
         if command == "dump" {
             self.dumps += 1;
         } else if let Some(n) = number(answer) {
-            self.numbers[n.min(16)] += 1;
+            *self.numbers.entry(n).or_default() += 1;
             self.releases += usize::from(answer.starts_with("0 release"));
         } else {
             self.errors += 1;
@@ -207,7 +207,7 @@ pub fn compare(
         {
             match unjustified(&script[..place], command, b, reference)? {
                 None => {
-                    counts.cuts[n] += 1;
+                    *counts.cuts.entry(n).or_default() += 1;
                     cut = true;
                 }
                 Some(why) => found = Some(Difference { place, why }),
