@@ -24,7 +24,7 @@ use Rattle.waiting.specs.declared.ReleaseAnswer.the-variants as releasing
 use Rattle.waiting.specs.Answers.{storeNumberOf, storeValuesOf, releaseNumberOf}
 use Rattle.waiting.specs.Waiting.{cleared, left}
 use Rattle.waiting.specs.Waiting as waiting
-use Rattle.waiting.specs.Records.{encode, records, over}
+use Rattle.waiting.specs.Records.{encode, records, over, most-bytes}
 use Rattle.waiting_store.specs.Entries.{waitingOf, lent-none}
 use Rattle.waiting_store.specs.Entries as entries
 use Rattle.waiting_store.specs.Written.{Laid, Writing}
@@ -297,7 +297,7 @@ module _ (S : Settings) (now : ℕ) (y : model.SyncPacket) (k k′ : Counted) (a
     }
 
     -- an output with room is written
-    pub synchronises-called : (n′ : ℕ) (rows′ : Rows) (store′ out′ : List ℕ) (r : ReleaseAnswer) → pairs.accepted a ≡ true → 35072 ≤ length out
+    pub synchronises-called : (n′ : ℕ) (rows′ : Rows) (store′ out′ : List ℕ) (r : ReleaseAnswer) → pairs.accepted a ≡ true → most-bytes ≤ length out
         → ReleaseCalled n rows store now (y .address) out rows′ store′ out′ n′ r
         → Synchronises S now y k n rows store out k′ n′ rows′ store′ out′ (releaseSaid r)
     synchronises-called n′ rows′ store′ out′ r e f c =

@@ -13,6 +13,8 @@ ghost use Rattle.sequences.specs.View as numbered;
 ghost use Rattle.packets.specs.View.{packetOf, syncOf};
 ghost use Rattle.arrivals.specs.View.{dataOf, lentOf, rowsOf, storeSaid, releaseSaid};
 ghost use Rattle.arrivals.specs.View.{Tells, Releases, Holds, Accepts, Arrives, Synchronises, Polls};
+ghost use Rattle.waiting.specs.Records.{most-bytes};
+ghost use Rattle.merge.specs.Merge.{most-values};
 use listening::Listened;
 use listening::ListenedUniverses;
 use merge::DmxData;
@@ -88,7 +90,7 @@ fn release_packet(
     values: &[u8],
     out: &mut [u8],
 ) -> PacketReleased
-    requires { ⌜ held.Kept (waiting .count) (now rows) (now store) × (35072 ≤ length (now out)) × (length (now values) ≤ 513) ⌝ }
+    requires { ⌜ held.Kept (waiting .count) (now rows) (now store) × (most-bytes ≤ length (now out)) × (length (now values) ≤ most-values) ⌝ }
     ensures { λ r. ⌜ Releases reading (packetOf packet (now (values .entry)))
         (waiting .count) (now (rows .entry)) (now (store .entry)) (now (out .entry))
         (r .waiting .count) (now (rows .exit)) (now (store .exit)) (now (out .exit)) (r .bytes) ⌝ }
@@ -115,7 +117,7 @@ fn hold_packet(
     packet: DataPacket,
     values: &[u8],
 ) -> Accepted
-    requires { ⌜ held.Kept (waiting .count) (now rows) (now store) × hearing.Kept listened (now heard) × (length (now values) ≤ 513) ⌝ }
+    requires { ⌜ held.Kept (waiting .count) (now rows) (now store) × hearing.Kept listened (now heard) × (length (now values) ≤ most-values) ⌝ }
     ensures { λ r. ⌜ Holds settings reading (packetOf packet (now (values .entry)))
         (lentOf (waiting .count) listened (now (rows .entry)) (now (store .entry)) (now (heard .entry)))
         (lentOf (r .waiting .count) (r .listened) (now (rows .exit)) (now (store .exit)) (now (heard .exit))) (r .answer) ⌝ }
@@ -164,7 +166,7 @@ fn accept_data(
     out: &mut [u8],
 ) -> Accepted
     requires { ⌜ held.Kept (waiting .count) (now rows) (now store) × hearing.Kept listened (now heard)
-        × (35072 ≤ length (now out)) × (length (now values) ≤ 513) ⌝ }
+        × (most-bytes ≤ length (now out)) × (length (now values) ≤ most-values) ⌝ }
     ensures { λ r. ⌜ Accepts settings reading (packetOf packet (now (values .entry)))
         (lentOf (waiting .count) listened (now (rows .entry)) (now (store .entry)) (now (heard .entry))) (now (out .entry))
         (lentOf (r .waiting .count) (r .listened) (now (rows .exit)) (now (store .exit)) (now (heard .exit))) (now (out .exit)) (r .answer) ⌝ }
@@ -266,7 +268,7 @@ pub fn arrive_data(
     out: &mut [u8],
 ) -> DataArrived
     requires { ⌜ counted.Kept («data» .table) (now pairs) (now sources) × held.Kept (waiting .count) (now rows) (now store)
-        × hearing.Kept listened (now heard) × (35072 ≤ length (now out)) × (length (now values) ≤ 513) ⌝ }
+        × hearing.Kept listened (now heard) × (most-bytes ≤ length (now out)) × (length (now values) ≤ most-values) ⌝ }
     ensures { λ r. ⌜ Arrives settings reading (packetOf packet (now (values .entry)))
         (rowsOf («data» .table) (now (pairs .entry)) (now (sources .entry)))
         (lentOf (waiting .count) listened (now (rows .entry)) (now (store .entry)) (now (heard .entry))) (now (out .entry))
@@ -333,7 +335,7 @@ pub fn arrive_sync(
     out: &mut [u8],
 ) -> SyncArrived
     requires { ⌜ counted.Kept (sync .table) (now pairs) (now sources) × held.Kept (waiting .count) (now rows) (now store)
-        × (35072 ≤ length (now out)) ⌝ }
+        × (most-bytes ≤ length (now out)) ⌝ }
     ensures { λ r. ⌜ Synchronises settings reading (syncOf packet)
         (rowsOf (sync .table) (now (pairs .entry)) (now (sources .entry)))
         (waiting .count) (now (rows .entry)) (now (store .entry)) (now (out .entry))

@@ -132,6 +132,10 @@ capacity = 64
 abbrev pub most-universes : ℕ
 most-universes = 512
 
+-- all pages full: 64 times 512
+abbrev pub pool-length : ℕ
+pool-length = 32768
+
 abbrev pub most-name : ℕ
 most-name = 63
 

@@ -3,11 +3,11 @@
 use mathlib.Core.Path.{_≡_, refl}
 use mathlib.Core.Option.{none, some}
 use mathlib.Core.List.{List, [], _∷_, map}
-use Prim.Native.Nat.{ℕ}
+use Prim.Native.Nat.{ℕ, _*_}
 use lib.ListN.{length}
 use Rattle.laws.specs.Table.{keep, any}
 use Rattle.discovery.specs.declared.PageAnswer.the-variants.{PagesFull}
-use Rattle.discovery.specs.Discovery.{Source, Discovered, Announcement, nothing-known, lookup, drop-source, relisted, updated, in-place, sorted, numbered, complete, extended, begun, noted, noting, page-count, pages-held, taken, arrived, too-long, swept}
+use Rattle.discovery.specs.Discovery.{pool-length, Source, Discovered, Announcement, nothing-known, lookup, drop-source, relisted, updated, in-place, sorted, numbered, complete, extended, begun, noted, noting, page-count, pages-held, taken, arrived, too-long, swept}
 
 -- pages of one source, in the order of their arrival, at the reading 0
 unfoldable pub arrivals : ℕ → List ℕ → Discovered → Discovered
@@ -96,3 +96,7 @@ list-told a h g = rw (h, g)
 pub neither-told : (a : Announcement) → length (a .name) ≡ 63 → length (a .universes) ≡ 512 → too-long a ≡ none
 unfolding too-long
 neither-told a h g = rw (h, g)
+
+-- "At most 64 pages held ..; 512 universes a page"
+pub pool-64 : pool-length ≡ 64 * 512
+pool-64 = refl

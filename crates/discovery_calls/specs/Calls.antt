@@ -23,7 +23,8 @@ use Rattle.discovery_rows.specs.Store.{Head, Leaf, heads-of, pages-at, sources-
 use Rattle.discovery_rows.specs.Leaves.{behind, turned}
 use Rattle.discovery_calls.specs.Moves.{with-source, leafOf, view-with, sound-with, others, listed-head, view-turned, sound-turned, heads-turned, grown, view-extended, sound-extended}
 use Rattle.discovery_rows.specs.Pool.{pushed, dropped-past}
-use Rattle.discovery_rows.specs.Lent.{pool-length, lent-none}
+use Rattle.discovery.specs.Discovery.{pool-length}
+use Rattle.discovery_rows.specs.Lent.{lent-none}
 use Rattle.discovery_rows.specs.Rows.{cidAt, owned, headOf, leafAt, leafWith, heads, leaves, total, amount, Few, Packs, turned-row, page-pushed, total-pushed, few-pushed, listed-row}
 use Rattle.discovery_rows.specs.Steps.{pool-room, pool-small}
 use Rattle.discovery_calls.specs.View.{headsOf, leavesOf, discoveredOf, Kept, Holds, Dropped, heads-append, length-leavesOf, kept-fewer, absent-heads, heads-prefix, heads-removeAt, heads-set, heads-getD, kept-held, single-sound, length-heads}

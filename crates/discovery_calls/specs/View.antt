@@ -16,7 +16,8 @@ use Rattle.rules.specs.declared.Cid.{Cid}
 use Rattle.discovery_calls.specs.declared.Discovery.{Discovery}
 use Rattle.discovery.specs.Discovery.{Discovered, pages-held, nothing-known, capacity}
 use Rattle.discovery_rows.specs.Store.{Head, Leaf, heads-of, held-by, pages-at, viewOf, Sound, Single, single-heads, keep-none, keep-single, prefix-none, prefix-any}
-use Rattle.discovery_rows.specs.Lent.{Lent, lent-none, pool-length}
+use Rattle.discovery.specs.Discovery.{pool-length}
+use Rattle.discovery_rows.specs.Lent.{Lent, lent-none}
 use Rattle.discovery_rows.specs.Leaves.{held-leaves, heads-leaves, pages-none}
 use Rattle.discovery_calls.specs.Moves.{without, others, leaves-of-others, view-dropped, sound-dropped}
 use Rattle.discovery_rows.specs.Rows.{owned, headOf, heads, leaves, total, Packing, Packs, length-leaves}

@@ -4,10 +4,7 @@ use mathlib.Core.Path.{_≡_, refl, _∙_}
 use mathlib.Core.List.{List}
 use Prim.Native.Nat.{ℕ, _*_}
 use lib.ListN.{length, drop}
-use Rattle.discovery.specs.Discovery.{capacity, most-universes}
-
-abbrev pub pool-length : ℕ
-pool-length = 32768
+use Rattle.discovery.specs.Discovery.{capacity, most-universes, pool-length}
 
 -- all pages full
 pub pool-full : pool-length ≡ capacity * most-universes

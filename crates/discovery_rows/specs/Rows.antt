@@ -22,7 +22,8 @@ use Rattle.discovery.specs.Discovery.{cut-page, most-universes, capacity}
 use Rattle.discovery_rows.specs.Store.{Head, Leaf, owner, held-by}
 use Rattle.discovery_rows.specs.Leaves.{cut-leaf}
 use Rattle.discovery_rows.specs.Pool.{further, further-read, read-first, keep-more, dropped-both, dropped-past}
-use Rattle.discovery_rows.specs.Lent.{pool-length, Lent}
+use Rattle.discovery.specs.Discovery.{pool-length}
+use Rattle.discovery_rows.specs.Lent.{Lent}
 
 abbrev pub cidAt : List ℕ → Cid
 cidAt r = record { hi = getD r 1 0; lo = getD r 2 0 }

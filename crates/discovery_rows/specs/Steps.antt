@@ -13,7 +13,7 @@ use Rattle.discovery.specs.Discovery.{most-universes, capacity}
 use Rattle.discovery_rows.specs.Store.{Leaf}
 use Rattle.discovery_rows.specs.Leaves.{behind}
 use Rattle.discovery_rows.specs.Pool.{dropped-past}
-use Rattle.discovery_rows.specs.Lent.{pool-length}
+use Rattle.discovery.specs.Discovery.{pool-length}
 use Rattle.discovery_rows.specs.Rows.{leafAt, leafWith, leaves, total, amount, Few, Packing, Packs, larger, leaves-agree, leaves-append, taken-dropped, total-append, total-few}
 
 -- ── one page more for a partial source ──

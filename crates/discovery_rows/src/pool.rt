@@ -6,7 +6,7 @@ ghost use Prim.Native.Nat.{_+_, _≤_};
 ghost use lib.Dec.{eqb};
 ghost use lib.ListN.{length, take, drop};
 ghost use Rattle.laws.specs.Table.{keep};
-ghost use Rattle.discovery_rows.specs.Lent.{pool-length};
+ghost use Rattle.discovery.specs.Discovery.{pool-length};
 use discovery::POOL;
 
 // Those from place at to the first `used` moved up by n.

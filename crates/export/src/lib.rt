@@ -14,6 +14,7 @@ ghost use Rattle.receiver.specs.View.{Memory, with-listened-rows, stateOf, Kept
 ghost use Rattle.receiver.specs.Lent.{sequences-in, lent-in, lent, sequences-lent, waiting-lent, listened-lent, discovery-lent};
 ghost use Rattle.boundary.specs.Boundary.{receiverOf, mergeOf, settingsOf, packetIn, syncIn, announcedIn};
 ghost use Rattle.export.specs.Promises.{Replies, Answers};
+ghost use Rattle.model.specs.Step.{most-listened};
 
 pub mod read_outs;
 
@@ -334,7 +335,7 @@ pub extern "C" fn tamburelvi_clear_waiting_data(
 // A fresh receiver; but for the listened universes the memory may hold anything.
 #[no_mangle]
 pub extern "C" fn tamburelvi_new(heard: &mut ListenedUniverses) -> Header
-    requires { ⌜ length (now heard) ≡ 1024 ⌝ }
+    requires { ⌜ length (now heard) ≡ most-listened ⌝ }
     ensures { λ r. ⌜ ((m : Memory) → Begins (receiverOf r) (with-listened-rows (now (heard .exit)) m)) ⌝ }
 {
     let receiver = Receiver::new(heard);

@@ -9,6 +9,10 @@ ghost use Rattle.discovery_reads.specs.Reads.{page-of-row, SourceAt, PageAt, He
 ghost use Rattle.listening.specs.View.{listenedOf};
 ghost use Rattle.boundary.specs.Boundary.{receiverOf};
 ghost use Rattle.reads.specs.Reads.{pairRead, cidRead, dmxRead, headRead, pageRead, no-source, no-page, longest};
+ghost use Rattle.pairs.specs.Table.{capacity as most-pairs};
+ghost use Rattle.waiting.specs.Waiting.{capacity as most-waiting};
+ghost use Rattle.discovery.specs.Discovery.{capacity as most-pages};
+ghost use Rattle.model.specs.Step.{most-listened};
 use boundary::Header;
 use discovery_rows::HeadRows;
 use discovery_rows::PageRows;
@@ -33,7 +37,7 @@ use waiting_store::EntryRows;
 // A pair of the data table, by its place from 0.
 #[no_mangle]
 pub extern "C" fn tamburelvi_data_pair(header: Header, data_pairs: &PairRows, at: usize) -> PairRead
-    requires { ⌜ length (now «data_pairs») ≡ 1024 ⌝ }
+    requires { ⌜ length (now «data_pairs») ≡ most-pairs ⌝ }
     ensures { λ r. ⌜ pairRead r
         ≡ getD (pairsOf (receiverOf header .sequences .«data» .table .count) (now («data_pairs» .entry))) at (pairOf []) ⌝ }
 {
@@ -43,7 +47,7 @@ pub extern "C" fn tamburelvi_data_pair(header: Header, data_pairs: &PairRows, at
 // A pair of the synchronisation table; its universe is the address.
 #[no_mangle]
 pub extern "C" fn tamburelvi_sync_pair(header: Header, sync_pairs: &PairRows, at: usize) -> PairRead
-    requires { ⌜ length (now «sync_pairs») ≡ 1024 ⌝ }
+    requires { ⌜ length (now «sync_pairs») ≡ most-pairs ⌝ }
     ensures { λ r. ⌜ pairRead r ≡ getD (pairsOf (receiverOf header .sequences .sync .table .count) (now («sync_pairs» .entry))) at (pairOf []) ⌝ }
 {
     pair_at(sync_pairs, header.sync_pairs, at)
@@ -56,7 +60,7 @@ pub extern "C" fn tamburelvi_data_source(
     data_sources: &SourceRows,
     at: usize,
 ) -> CidRead
-    requires { ⌜ length (now «data_sources») ≡ 1024 ⌝ }
+    requires { ⌜ length (now «data_sources») ≡ most-pairs ⌝ }
     ensures { λ r. ⌜ cidRead r
         ≡ getD (sourcesOf (receiverOf header .sequences .«data» .table .«source_count») (now («data_sources» .entry))) at (cidOf []) ⌝ }
 {
@@ -70,7 +74,7 @@ pub extern "C" fn tamburelvi_sync_source(
     sync_sources: &SourceRows,
     at: usize,
 ) -> CidRead
-    requires { ⌜ length (now «sync_sources») ≡ 1024 ⌝ }
+    requires { ⌜ length (now «sync_sources») ≡ most-pairs ⌝ }
     ensures { λ r. ⌜ cidRead r
         ≡ getD (sourcesOf (receiverOf header .sequences .sync .table .«source_count») (now («sync_sources» .entry))) at (cidOf []) ⌝ }
 {
@@ -80,7 +84,7 @@ pub extern "C" fn tamburelvi_sync_source(
 // A listened universe, ascending.
 #[no_mangle]
 pub extern "C" fn tamburelvi_listened(header: Header, heard: &ListenedUniverses, at: usize) -> u16
-    requires { ⌜ length (now heard) ≡ 1024 ⌝ }
+    requires { ⌜ length (now heard) ≡ most-listened ⌝ }
     ensures { λ r. ⌜ r ≡ getD (listenedOf (receiverOf header .listened) (now (heard .entry))) at 0 ⌝ }
 {
     listened_at(header, heard, at)
@@ -89,7 +93,7 @@ pub extern "C" fn tamburelvi_listened(header: Header, heard: &ListenedUniverses,
 // What waits for a universe, ascending, but for its values.
 #[no_mangle]
 pub extern "C" fn tamburelvi_waiting(header: Header, rows: &EntryRows, at: usize) -> DmxRead
-    requires { ⌜ length (now rows) ≡ 64 ⌝ }
+    requires { ⌜ length (now rows) ≡ most-waiting ⌝ }
     ensures { λ r. ⌜ ((store : List ℕ) →
         dmxRead r ≡ getD (waitingOf (receiverOf header .waiting .count) (now (rows .entry)) store) at nothing .head) ⌝ }
 {
@@ -99,7 +103,7 @@ pub extern "C" fn tamburelvi_waiting(header: Header, rows: &EntryRows, at: usize
 // Where its values lie in the store.
 #[no_mangle]
 pub extern "C" fn tamburelvi_waiting_values(header: Header, rows: &EntryRows, at: usize) -> PartRead
-    requires { ⌜ length (now rows) ≡ 64 ⌝ }
+    requires { ⌜ length (now rows) ≡ most-waiting ⌝ }
     ensures { λ r. ⌜ ((store : List ℕ) →
         take (r .count) (drop (r .start) store)
         ≡ getD (waitingOf (receiverOf header .waiting .count) (now (rows .entry)) store) at nothing .values) ⌝ }
@@ -115,7 +119,7 @@ pub extern "C" fn tamburelvi_source_at(
     mark: u64,
     at: usize,
 ) -> SourceRead
-    requires { ⌜ length (now sources) ≡ 64 ⌝ }
+    requires { ⌜ length (now sources) ≡ most-pages ⌝ }
     ensures placed { λ r. ⌜ ((names pages : List (List ℕ)) (universes : List ℕ) →
         SourceAt mark at (r .place) (receiverOf header .discovery) (now (sources .entry)) names pages universes) ⌝ }
     ensures told { λ r. ⌜ (r .place < receiverOf header .discovery .«source_count» →
@@ -135,7 +139,7 @@ pub extern "C" fn tamburelvi_page_at(
     lo: u64,
     at: usize,
 ) -> PageRead
-    requires { ⌜ length (now pages) ≡ 64 ⌝ }
+    requires { ⌜ length (now pages) ≡ most-pages ⌝ }
     ensures placed { λ r. ⌜ ((universes : List ℕ) →
         PageAt mark (record { hi = hi; lo = lo }) at (r .place) (receiverOf header .discovery) (now (pages .entry)) universes) ⌝ }
     ensures told { λ r. ⌜ (r .place < receiverOf header .discovery .«page_count» → (universes : List ℕ) → length universes ≤ longest →

@@ -9,6 +9,7 @@ use lib.ListN.{length}
 use borrow.Author.Tests.{lt-ltb, le-ltb}
 use Rattle.rules.specs.Answer.{first-of}
 use Rattle.waiting.specs.Records.{most-bytes}
+use Rattle.discovery.specs.Discovery.{pool-length}
 use Rattle.model.specs.Packet.{over}
 use Rattle.model.specs.Step.{Space, short, too-short, waiting-bytes, page-bytes}
 use Rattle.lengths.specs.Space.{shortage, excess, first-found}
@@ -20,10 +21,10 @@ pub short-none : (needed room : ℕ) → needed ≤ room → short needed room �
 short-none needed room h = rw (le-ltb room needed h)
 
 -- a universe takes two bytes
-pub pages-some : (n : ℕ) → n < 32768 → short page-bytes (n + n) ≡ some page-bytes
+pub pages-some : (n : ℕ) → n < pool-length → short page-bytes (n + n) ≡ some page-bytes
 pages-some n h = short-some page-bytes (n + n) (omega arith)
 
-pub pages-none : (n : ℕ) → 32768 ≤ n → short page-bytes (n + n) ≡ none
+pub pages-none : (n : ℕ) → pool-length ≤ n → short page-bytes (n + n) ≡ none
 pages-none n h = short-none page-bytes (n + n) (omega arith)
 
 pub over-some : (most : ℕ) (part : List ℕ) → most < length part → over most part ≡ some (length part)

@@ -8,6 +8,15 @@ ghost use Rattle.merge.specs.Merge.{most-values};
 ghost use Rattle.waiting.specs.Records.{most-bytes};
 ghost use Rattle.discovery.specs.Discovery.{most-name, most-universes};
 ghost use Rattle.lengths.specs.Space.{spaceOf, bytes, shortage, excess, first-found};
+use discovery::NAME;
+use discovery::PAGE_UNIVERSES;
+use discovery::POOL;
+use merge::VALUES;
+use waiting::RELEASE_LENGTH;
+use waiting::STORE_LENGTH;
+
+// A universe takes two bytes.
+const PAGE_BYTES: usize = POOL * 2;
 
 // What a test of lengths finds.
 pub enum Measured {
@@ -33,8 +42,8 @@ fn first_found(first: Measured, second: Measured) -> Measured
 fn test_output(out: &[u8]) -> Measured
     ensures { λ r. ⌜ r ≡ shortage (short most-bytes (length (now (out .entry)))) ⌝ }
 {
-    if out.len() < 35072 {
-        return Measured::TooShort(35072);
+    if out.len() < RELEASE_LENGTH {
+        return Measured::TooShort(RELEASE_LENGTH);
     }
     Measured::Fits
 }
@@ -54,8 +63,8 @@ pub fn test_space(out: &[u8], waiting: &[u8], pages: &[u16]) -> Measured
 pub fn test_waiting_store(store: &[u8]) -> Measured
     ensures { λ r. ⌜ r ≡ shortage (short waiting-bytes (length (now (store .entry)))) ⌝ }
 {
-    if store.len() < 32832 {
-        return Measured::TooShort(32832);
+    if store.len() < STORE_LENGTH {
+        return Measured::TooShort(STORE_LENGTH);
     }
     Measured::Fits
 }
@@ -64,8 +73,8 @@ pub fn test_waiting_store(store: &[u8]) -> Measured
 pub fn test_page_store(universes: &[u16]) -> Measured
     ensures { λ r. ⌜ r ≡ shortage (short page-bytes (bytes (now (universes .entry)))) ⌝ }
 {
-    if universes.len() < 32768 {
-        return Measured::TooShort(65536);
+    if universes.len() < POOL {
+        return Measured::TooShort(PAGE_BYTES);
     }
     Measured::Fits
 }
@@ -74,7 +83,7 @@ pub fn test_page_store(universes: &[u16]) -> Measured
 pub fn test_values(values: &[u8]) -> Measured
     ensures { λ r. ⌜ r ≡ excess (over most-values (now (values .entry))) ⌝ }
 {
-    if 513 < values.len() {
+    if VALUES < values.len() {
         return Measured::TooLong(values.len());
     }
     Measured::Fits
@@ -84,7 +93,7 @@ pub fn test_values(values: &[u8]) -> Measured
 fn test_name(name: &[u8]) -> Measured
     ensures { λ r. ⌜ r ≡ excess (over most-name (now (name .entry))) ⌝ }
 {
-    if 63 < name.len() {
+    if NAME < name.len() {
         return Measured::TooLong(name.len());
     }
     Measured::Fits
@@ -94,7 +103,7 @@ fn test_name(name: &[u8]) -> Measured
 fn test_list(list: &[u16]) -> Measured
     ensures { λ r. ⌜ r ≡ excess (over most-universes (now (list .entry))) ⌝ }
 {
-    if 512 < list.len() {
+    if PAGE_UNIVERSES < list.len() {
         return Measured::TooLong(list.len());
     }
     Measured::Fits

@@ -33,7 +33,7 @@ use Rattle.model.specs.declared.ListenAnswer.{ListenAnswer}
 use Rattle.model.specs.declared.ListenAnswer.the-variants as listening
 use Rattle.model.specs.Packet.{DataPacket, SyncPacket, Packet, data-packet, sync-packet, discovery-packet, over, too-long}
 use Rattle.model.specs.State.{State, fresh, listens, itself}
-use Rattle.model.specs.Step.{Space, Outcome, outcome, with-data, with-sync, with-waiting, with-listened, with-discovered, most-listened, illegal, joined-by, listen-all, too-short, short, poll-waiting, poll-sync, poll, if-accepted, release, terminated, unsynchronised, stored, heard, synchronised, accepted, data-arrival, data-step, synchronise, sync-arrival, sync-step, discovery-step, packet-step, polled, measured, step, dmx, data-pair, sync-pair, known}
+use Rattle.model.specs.Step.{Space, Outcome, outcome, with-data, with-sync, with-waiting, with-listened, with-discovered, most-listened, illegal, joined-by, listen-all, too-short, short, poll-waiting, poll-sync, poll, if-accepted, release, terminated, unsynchronised, stored, heard, synchronised, accepted, data-arrival, data-step, synchronise, sync-arrival, sync-step, discovery-step, packet-step, polled, measured, step, dmx, data-pair, sync-pair, known, waiting-bytes, page-bytes}
 use Rattle.model.specs.Calls.{poll-call, polled-by, expiry-call, listen-call, muted, mute-call, clear-call, clear-all-call, reset-call, Call, on-packet, on-poll, on-expiry, on-listen, on-mute, on-ask, on-clear, on-clear-all, on-reset, call, run}
 
 -- ── listened universes ──
@@ -311,11 +311,11 @@ pub call-kept : (c : Call) (s : State) → Kept s → Kept (call c s)
 unfolding call
 call-kept (on-packet m S now p) s k = step-kept m S now p s k
 call-kept (on-poll room S now) s k =
-    found (short 32832 room)
+    found (short waiting-bytes room)
     (λ e. let q : poll-call room S now s .0 ≡ poll S now s .0 = unfold poll-call in (rw (e, poll-call) (polled-by-state (poll S now s))) in subst Kept (sym q) (poll-kept S now s k))
     (λ n e. let q : poll-call room S now s .0 ≡ s = unfold poll-call in cc in subst Kept (sym q) k)
 call-kept (on-expiry room now) s k =
-    found (short 65536 room)
+    found (short page-bytes room)
     (λ e. let q : expiry-call room now s .0 ≡ with-discovered (discovery.swept data-loss now (s .discovered)) s = unfold expiry-call in cc in
     subst Kept (sym q) (discovered-anew s k _ (discovery-laws.ordered-swept data-loss now (s .discovered) (k .kept-discovered))))
     (λ n e. let q : expiry-call room now s .0 ≡ s = unfold expiry-call in cc in subst Kept (sym q) k)
@@ -323,7 +323,7 @@ call-kept (on-listen us) s k = unfold listen-call in listened-anew s k _ (listen
 call-kept (on-mute u) s k = mute-kept u s k
 call-kept (on-ask u) s k = k
 call-kept (on-clear room u) s k =
-    found (short 32832 room)
+    found (short waiting-bytes room)
     (λ e. let q : clear-call room u s .0 ≡ with-waiting (waiting.cleared u (s .waiting) .0) s = unfold clear-call in cc in
     subst Kept (sym q) (waiting-anew s k _ (waiting-laws.ordered-cleared u (s .waiting) (k .kept-waiting))))
     (λ n e. let q : clear-call room u s .0 ≡ s = unfold clear-call in cc in subst Kept (sym q) k)

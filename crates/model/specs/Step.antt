@@ -4,7 +4,7 @@ use mathlib.Core.Path.{_≡_}
 use mathlib.Core.Bool.{Bool, true, false, not, cond, _&&_}
 use mathlib.Core.Option.{Option, none, some}
 use mathlib.Core.List.{List, [], _∷_}
-use Prim.Native.Nat.{ℕ}
+use Prim.Native.Nat.{ℕ, _+_}
 use lib.Dec.{ltb, leb, eqb}
 use lib.ListN.{length}
 use Rattle.laws.specs.Table.{store}
@@ -88,10 +88,10 @@ pub record Space : Type 0 where
 
 -- 64 times 513 bytes; 64 times 512 numbers of two bytes
 abbrev pub waiting-bytes : ℕ
-waiting-bytes = 32832
+waiting-bytes = waiting.store-length
 
 abbrev pub page-bytes : ℕ
-page-bytes = 65536
+page-bytes = discovery.pool-length + discovery.pool-length
 
 abbrev pub short : ℕ → ℕ → Option ℕ
 short needed room = cond (ltb room needed) (some needed) none

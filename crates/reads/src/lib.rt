@@ -9,6 +9,10 @@ ghost use Rattle.discovery_reads.specs.Reads.{page-of-row, SourceAt, PageAt, He
 ghost use Rattle.listening.specs.View.{listenedOf};
 ghost use Rattle.boundary.specs.Boundary.{receiverOf};
 ghost use Rattle.reads.specs.Reads.{pairRead, cidRead, dmxRead, headRead, pageRead, no-source, no-page, longest};
+ghost use Rattle.pairs.specs.Table.{capacity as most-pairs};
+ghost use Rattle.waiting.specs.Waiting.{capacity as most-waiting};
+ghost use Rattle.discovery.specs.Discovery.{capacity as most-pages};
+ghost use Rattle.model.specs.Step.{most-listened};
 use boundary::Header;
 use discovery_calls::Discovery;
 use discovery_reads::page_head;
@@ -19,9 +23,12 @@ use discovery_reads::source_place;
 use discovery_reads::within;
 use discovery_rows::HeadRows;
 use discovery_rows::PageRows;
+use listening::LISTENED;
 use listening::ListenedUniverses;
 use merge::DmxData;
 use merge::SourceCid;
+use merge::VALUES;
+use pair_rows::PAIRS;
 use pair_rows::PairRows;
 use pair_rows::SourceRows;
 use rules::Cid;
@@ -98,13 +105,13 @@ fn read_pair(row: [u64; 4]) -> PairRead
 }
 
 pub fn pair_at(pairs: &PairRows, count: usize, at: usize) -> PairRead
-    requires { ⌜ length (now pairs) ≡ 1024 ⌝ }
+    requires { ⌜ length (now pairs) ≡ most-pairs ⌝ }
     ensures { λ r. ⌜ pairRead r ≡ getD (pairsOf count (now (pairs .entry))) at (pairOf []) ⌝ }
 {
     if count <= at {
         return read_pair([0u64; 4]);
     }
-    if 1024 <= at {
+    if PAIRS <= at {
         return read_pair([0u64; 4]);
     }
     let row = pairs[at];
@@ -121,13 +128,13 @@ fn read_cid(row: [u64; 2]) -> CidRead
 }
 
 pub fn cid_at(sources: &SourceRows, count: usize, at: usize) -> CidRead
-    requires { ⌜ length (now sources) ≡ 1024 ⌝ }
+    requires { ⌜ length (now sources) ≡ most-pairs ⌝ }
     ensures { λ r. ⌜ cidRead r ≡ getD (sourcesOf count (now (sources .entry))) at (cidOf []) ⌝ }
 {
     if count <= at {
         return read_cid([0u64; 2]);
     }
-    if 1024 <= at {
+    if PAIRS <= at {
         return read_cid([0u64; 2]);
     }
     let row = sources[at];
@@ -136,13 +143,13 @@ pub fn cid_at(sources: &SourceRows, count: usize, at: usize) -> CidRead
 
 // A listened universe, ascending.
 pub fn listened_at(header: Header, heard: &ListenedUniverses, at: usize) -> u16
-    requires { ⌜ length (now heard) ≡ 1024 ⌝ }
+    requires { ⌜ length (now heard) ≡ most-listened ⌝ }
     ensures { λ r. ⌜ r ≡ getD (listenedOf (receiverOf header .listened) (now (heard .entry))) at 0 ⌝ }
 {
     if header.listened <= at {
         return 0;
     }
-    if 1024 <= at {
+    if LISTENED <= at {
         return 0;
     }
     heard[at]
@@ -178,7 +185,7 @@ fn read_dmx(d: DmxData) -> DmxRead
 
 // What waits for a universe, ascending, but for its values.
 pub fn waiting_at(header: Header, rows: &EntryRows, at: usize) -> DmxRead
-    requires { ⌜ length (now rows) ≡ 64 ⌝ }
+    requires { ⌜ length (now rows) ≡ most-waiting ⌝ }
     ensures { λ r. ⌜ ((store : List ℕ) →
         dmxRead r ≡ getD (waitingOf (receiverOf header .waiting .count) (now (rows .entry)) store) at nothing .head) ⌝ }
 {
@@ -190,7 +197,7 @@ pub fn waiting_at(header: Header, rows: &EntryRows, at: usize) -> DmxRead
 
 // Where its values lie in the store.
 pub fn waiting_values_at(header: Header, rows: &EntryRows, at: usize) -> PartRead
-    requires { ⌜ length (now rows) ≡ 64 ⌝ }
+    requires { ⌜ length (now rows) ≡ most-waiting ⌝ }
     ensures { λ r. ⌜ ((store : List ℕ) →
         take (r .count) (drop (r .start) store)
         ≡ getD (waitingOf (receiverOf header .waiting .count) (now (rows .entry)) store) at nothing .values) ⌝ }
@@ -202,7 +209,7 @@ pub fn waiting_values_at(header: Header, rows: &EntryRows, at: usize) -> PartRea
     let row = rows[at];
     let count = count_of(row);
     PartRead {
-        start: at * 513,
+        start: at * VALUES,
         count: count,
     }
 }
@@ -212,7 +219,7 @@ const LONGEST: usize = 9223372036854775807;
 
 // The source of this mark (0 partial, 1 listed), by its place in its list; where there are not so many, the place is the number of sources, and the rest is zeros.
 pub fn source_at(header: Header, sources: &HeadRows, mark: u64, at: usize) -> SourceRead
-    requires { ⌜ length (now sources) ≡ 64 ⌝ }
+    requires { ⌜ length (now sources) ≡ most-pages ⌝ }
     ensures placed { λ r. ⌜ ((names pages : List (List ℕ)) (universes : List ℕ) →
         SourceAt mark at (r .place) (receiverOf header .discovery) (now (sources .entry)) names pages universes) ⌝ }
     ensures told { λ r. ⌜ (r .place < receiverOf header .discovery .«source_count» →
@@ -249,7 +256,7 @@ pub fn source_at(header: Header, sources: &HeadRows, mark: u64, at: usize) -> So
 
 // The page of this source, by its place among the source's pages; where there are not so many, the place is the number of pages, and the rest is zeros.
 pub fn page_at(header: Header, pages: &PageRows, mark: u64, hi: u64, lo: u64, at: usize) -> PageRead
-    requires { ⌜ length (now pages) ≡ 64 ⌝ }
+    requires { ⌜ length (now pages) ≡ most-pages ⌝ }
     ensures placed { λ r. ⌜ ((universes : List ℕ) →
         PageAt mark (record { hi = hi; lo = lo }) at (r .place) (receiverOf header .discovery) (now (pages .entry)) universes) ⌝ }
     ensures told { λ r. ⌜ (r .place < receiverOf header .discovery .«page_count» → (universes : List ℕ) → length universes ≤ longest →

@@ -30,7 +30,7 @@ use Rattle.listening.specs.declared.MuteDone.{MuteDone}
 use Rattle.listening.specs.View.{listenedOf, Listens, Mutes, Fresh}
 use Rattle.listening.specs.View as listening
 use Rattle.discovery_calls.specs.declared.Discovery.{Discovery}
-use Rattle.discovery.specs.Discovery.{swept}
+use Rattle.discovery.specs.Discovery.{pool-length, swept}
 use Rattle.discovery_calls.specs.View.{Holds, Emptied}
 use Rattle.discovery_rows.specs.Lent as pool
 use Rattle.lengths.specs.Space.{bytes}
@@ -155,7 +155,7 @@ module _ (now : ℕ) (r : Receiver) (m : Memory) where
   }
 
 -- what a pool that is long enough says of its length
-pub pool-room : (universes : List ℕ) → short page-bytes (bytes universes) ≡ none → 32768 ≤ length universes
+pub pool-room : (universes : List ℕ) → short page-bytes (bytes universes) ≡ none → pool-length ≤ length universes
 pool-room universes e = let h = room-for page-bytes (bytes universes) e in omega arith
 
 -- ── listened universes ──

@@ -20,6 +20,9 @@ use Rattle.lengths.specs.Space.{spaceOf}
 use Rattle.model.specs.State.{State, fresh}
 use Rattle.model.specs.Step.{Space}
 use Rattle.discovery_calls.specs.declared.Discovery.{Discovery}
+use Rattle.pairs.specs.Table.{capacity as most-pairs}
+use Rattle.waiting.specs.Waiting.{capacity as most-waiting}
+use Rattle.discovery.specs.Discovery.{capacity as most-pages, pool-length}
 use Rattle.receiver.specs.declared.Receiver.{Receiver}
 
 -- ── the view ──
@@ -91,18 +94,14 @@ spaceIn m out = spaceOf out (m .store) (m .universes)
 -- ── what is presupposed ──
 -- the lengths that the types of the lent arrays say
 pub record Sized (m : Memory) : Type 0 where
-  pub data-pairs-room : length (m .data-pairs) ≡ 1024
-  pub data-sources-room : length (m .data-sources) ≡ 1024
-  pub sync-pairs-room : length (m .sync-pairs) ≡ 1024
-  pub sync-sources-room : length (m .sync-sources) ≡ 1024
-  pub rows-room : length (m .rows) ≡ 64
-  pub sources-room : length (m .sources) ≡ 64
-  pub names-room : length (m .names) ≡ 64
-  pub pages-room : length (m .pages) ≡ 64
-
--- 64 pages of 512 universes
-abbrev pub pool-length : ℕ
-pool-length = 32768
+  pub data-pairs-room : length (m .data-pairs) ≡ most-pairs
+  pub data-sources-room : length (m .data-sources) ≡ most-pairs
+  pub sync-pairs-room : length (m .sync-pairs) ≡ most-pairs
+  pub sync-sources-room : length (m .sync-sources) ≡ most-pairs
+  pub rows-room : length (m .rows) ≡ most-waiting
+  pub sources-room : length (m .sources) ≡ most-pages
+  pub names-room : length (m .names) ≡ most-pages
+  pub pages-room : length (m .pages) ≡ most-pages
 
 -- of a store that is too short nothing is presupposed
 abbrev pub KeptWaiting : ℕ → Rows → List ℕ → Type 0

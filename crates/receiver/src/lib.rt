@@ -10,6 +10,7 @@ ghost use Rattle.lengths.specs.Space.{bytes};
 ghost use Rattle.laws.specs.Lent.{untouched};
 ghost use Rattle.receiver.specs.View.{Memory, with-listened-rows, stateOf, KeptWaiting, KeptDiscovery, Kept, Begins, Does, Becomes};
 ghost use Rattle.receiver.specs.Lent.{sequences-in, sequences-lent, waiting-lent, listened-lent, discovery-lent};
+ghost use Rattle.model.specs.Step.{most-listened};
 use arrivals::poll;
 use discovery_calls::Discovery;
 use discovery_rows::HeadRows;
@@ -71,7 +72,7 @@ pub struct AfterClear {
 impl Receiver {
     // A fresh receiver; but for the listened universes the memory lent later may hold anything.
     pub fn new(heard: &mut ListenedUniverses) -> Receiver
-        requires { ⌜ length (now heard) ≡ 1024 ⌝ }
+        requires { ⌜ length (now heard) ≡ most-listened ⌝ }
         ensures { λ r. ⌜ ((m : Memory) → Begins r (with-listened-rows (now (heard .exit)) m)) ⌝ }
     {
         let sequences = SequenceNumbering::new();

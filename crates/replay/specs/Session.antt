@@ -19,7 +19,8 @@ use Rattle.model.specs.Step.{Space, step}
 use Rattle.model.specs.Calls.{poll-call, expiry-call, listen-call, mute-call, clear-call, clear-all-call, reset-call}
 use Rattle.model.specs.Answer.{pollNumber, pollValues, expiryNumber, expiryValues, listenNumber, listenValues, muteNumber, muteValues, clearNumber, clearValues}
 use Rattle.receiver.specs.declared.Receiver.{Receiver}
-use Rattle.receiver.specs.View.{Memory, stateOf, spaceIn, pool-length, Kept}
+use Rattle.discovery.specs.Discovery.{pool-length}
+use Rattle.receiver.specs.View.{Memory, stateOf, spaceIn, Kept}
 use Rattle.packets.specs.View.{announcementOf}
 use Rattle.replay.specs.declared.parse.Command.{Command}
 use Rattle.replay.specs.declared.parse.Command.the-variants as says

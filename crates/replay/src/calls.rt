@@ -14,10 +14,12 @@ ghost use Rattle.model.specs.Packet.{data-packet, sync-packet, discovery-packet
 ghost use Rattle.model.specs.Calls.{poll-call, expiry-call, listen-call, mute-call, clear-call, clear-all-call, reset-call};
 ghost use Rattle.model.specs.Answer.{pollNumber, pollValues, expiryNumber, expiryValues, listenNumber, listenValues, muteNumber, muteValues, clearNumber, clearValues};
 ghost use Rattle.receiver.specs.Lent.{lent, lent-in};
-ghost use Rattle.receiver.specs.View.{Memory, memory, with-sequence-rows, with-waiting-rows, with-listened-rows, with-discovery-rows, stateOf, spaceIn, pool-length, Kept};
+ghost use Rattle.discovery.specs.Discovery.{pool-length};
+ghost use Rattle.receiver.specs.View.{Memory, memory, with-sequence-rows, with-waiting-rows, with-listened-rows, with-discovery-rows, stateOf, spaceIn, Kept};
 ghost use Rattle.packets.specs.View.{announcementOf};
 ghost use Rattle.replay.specs.Text.{Ready};
 ghost use Rattle.replay.specs.Session.{begun, set-to, limited-to, called, changed, asked, stepped, Carries};
+ghost use Rattle.model.specs.Step.{most-listened};
 use crate::answers::front;
 use crate::answers::put_clear;
 use crate::answers::put_expiry;
@@ -53,7 +55,7 @@ pub struct Session {
 }
 
 pub fn begin(session: Session, heard: &mut ListenedUniverses, out: &mut [u8]) -> Session
-    requires { ⌜ (length (now heard) ≡ 1024) × Ready (session .at) (now out) ⌝ }
+    requires { ⌜ (length (now heard) ≡ most-listened) × Ready (session .at) (now out) ⌝ }
     ensures { λ r. ⌜ ((m : Memory) → Carries session m (now (out .entry)) begun r (with-listened-rows (now (heard .exit)) m)
         (now (out .exit))) ⌝ }
 {

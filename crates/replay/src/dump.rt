@@ -13,10 +13,12 @@ ghost use Rattle.discovery_rows.specs.Rows.{Packing};
 ghost use Rattle.discovery_calls.specs.View as found;
 ghost use Rattle.discovery_reads.specs.Reads.{pages-of, sources-of};
 ghost use Rattle.receiver.specs.Lent.{lent, lent-in};
-ghost use Rattle.receiver.specs.View.{memory, stateOf, Kept, pool-length};
+ghost use Rattle.discovery.specs.Discovery.{pool-length};
+ghost use Rattle.receiver.specs.View.{memory, stateOf, Kept};
 ghost use Rattle.replay.specs.Text.{Ready, Tells};
 ghost use Rattle.replay.specs.Dump.{lines, spaced, pairLine, cidsText, sourcesLine, tableText, ownerText, waitingLine, listenedLine, pageLine, headLine, sourceText, discoveredText, dumpText};
 ghost use Rattle.replay.specs.DumpLaws.{page, first-page, first-source};
+ghost use Rattle.pairs.specs.Table.{capacity as most-pairs};
 use crate::answers::front;
 use crate::print::put;
 use crate::print::put_bit;
@@ -76,7 +78,7 @@ fn put_pair(out: &mut [u8], at: usize, mark: u8, pair: Pair) -> usize
 }
 
 fn put_pairs(out: &mut [u8], at: usize, mark: u8, pairs: &PairRows, n: usize) -> usize
-    requires { ⌜ Ready at (now out) × (n ≤ 1024) × (length (now pairs) ≡ 1024) ⌝ }
+    requires { ⌜ Ready at (now out) × (n ≤ most-pairs) × (length (now pairs) ≡ most-pairs) ⌝ }
     ensures { λ r. ⌜ Tells (lines (pairLine mark) (pairsOf n (now (pairs .entry)))) (now (out .entry)) at (now (out .exit)) r ⌝ }
 {
     let mut a = at;
@@ -91,7 +93,7 @@ fn put_pairs(out: &mut [u8], at: usize, mark: u8, pairs: &PairRows, n: usize) ->
 }
 
 fn put_cids(out: &mut [u8], at: usize, sources: &SourceRows, n: usize) -> usize
-    requires { ⌜ Ready at (now out) × (n ≤ 1024) × (length (now sources) ≡ 1024) ⌝ }
+    requires { ⌜ Ready at (now out) × (n ≤ most-pairs) × (length (now sources) ≡ most-pairs) ⌝ }
     ensures { λ r. ⌜ Tells (cidsText (sourcesOf n (now (sources .entry)))) (now (out .entry)) at (now (out .exit)) r ⌝ }
 {
     if n == 0 {
@@ -110,7 +112,7 @@ fn put_cids(out: &mut [u8], at: usize, sources: &SourceRows, n: usize) -> usize
 }
 
 fn put_sources_line(out: &mut [u8], at: usize, mark: u8, sources: &SourceRows, n: usize) -> usize
-    requires { ⌜ Ready at (now out) × (n ≤ 1024) × (length (now sources) ≡ 1024) ⌝ }
+    requires { ⌜ Ready at (now out) × (n ≤ most-pairs) × (length (now sources) ≡ most-pairs) ⌝ }
     ensures { λ r. ⌜ Tells (sourcesLine mark (sourcesOf n (now (sources .entry)))) (now (out .entry)) at (now (out .exit)) r ⌝ }
 {
     let a = put(&mut *out, at, mark);
@@ -127,8 +129,8 @@ pub fn put_table(
     pairs: &PairRows,
     sources: &SourceRows,
 ) -> usize
-    requires { ⌜ Ready at (now out) × (table .count ≤ 1024) × (table .«source_count» ≤ 1024) × (length (now pairs) ≡ 1024) ×
-        (length (now sources) ≡ 1024) ⌝ }
+    requires { ⌜ Ready at (now out) × (table .count ≤ most-pairs) × (table .«source_count» ≤ most-pairs) × (length (now pairs) ≡ most-pairs) ×
+        (length (now sources) ≡ most-pairs) ⌝ }
     ensures { λ r. ⌜ Tells (tableText mark (tableOf table (now (pairs .entry)) (now (sources .entry)))) (now (out .entry)) at
         (now (out .exit)) r ⌝ }
 {

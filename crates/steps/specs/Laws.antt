@@ -54,7 +54,8 @@ use Rattle.receiver.specs.Further.{polled-kept}
 use Rattle.steps.specs.declared.Course.{Course}
 use Rattle.steps.specs.declared.Course.the-variants as course
 use Rattle.packets.specs.declared.DiscoveryPacket.{DiscoveryPacket}
-use Rattle.receiver.specs.View.{Memory, sequencesIn, with-sequence-rows, with-sync-rows, with-waiting-rows, with-listened-rows, with-discovery-rows, stateOf, spaceIn, pool-length, Kept}
+use Rattle.discovery.specs.Discovery.{pool-length}
+use Rattle.receiver.specs.View.{Memory, sequencesIn, with-sequence-rows, with-sync-rows, with-waiting-rows, with-listened-rows, with-discovery-rows, stateOf, spaceIn, Kept}
 use Rattle.packets.specs.View.{announcementOf}
 use Rattle.steps.specs.View.{opening, courseOf, Opens, Ends, called, Tells, Takes}
 
@@ -172,7 +173,7 @@ module _ (S : Settings) (now : ℕ) (long : Option ℕ) (r : Receiver) (m : Memo
   enough : Long out (m .store) (m .universes)
   enough = long-enough out (m .store) (m .universes) (o .fits e .0)
 
-  pub ready-output : 35072 ≤ length out
+  pub ready-output : most-bytes ≤ length out
   ready-output = enough .output
 
   pub ready-held : waiting.Kept (r′ .waiting .count) (m′ .rows) (m′ .store)

@@ -7,7 +7,8 @@ use Rattle.discovery_calls.specs.View as found
 use Rattle.lengths.specs.Space.{bytes}
 use Rattle.model.specs.Answer.{expiryNumber, expiryValues}
 use Rattle.model.specs.Calls.{expiry-call}
-use Rattle.receiver.specs.View.{with-discovery-rows, pool-length}
+use Rattle.discovery.specs.Discovery.{pool-length}
+use Rattle.receiver.specs.View.{with-discovery-rows}
 use Rattle.receiver.specs.declared.Receiver.{Receiver}
 use Rattle.boundary.specs.Boundary.{sweptOf}
 use Rattle.export.specs.Laws.{answers}
