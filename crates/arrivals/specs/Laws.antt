@@ -49,10 +49,10 @@ use Rattle.rules.specs.declared.Cid.{Cid}
 use Rattle.pairs.specs.declared.SweepAnswer.{SweepAnswer}
 use Rattle.pairs.specs.declared.SweepAnswer.the-variants.{Quiet, TimedOut}
 use Rattle.sequences.specs.declared.SequenceNumbering.{SequenceNumbering}
-use Rattle.sequences.specs.View as numbered
+use Rattle.sequences.specs.View as sequences
 use Rattle.sequences.specs.Laws.{answer-some, answer-none}
 use Rattle.sequences.specs.Sequences.{Numbers, numbers, timeouts, timeouts-data, timeouts-sync}
-use Rattle.pair_tables.specs.View as counted
+use Rattle.pair_tables.specs.View as tables
 use Rattle.pair_rows.specs.View.{Rows}
 use Rattle.packets.specs.View.{packetOf}
 use Rattle.arrivals.specs.View.{dataOf, Lent, lentOf, waits, hears, Releases, Ready, Holds, Accepts, Counted, counts, Tells, storeSaid, releaseSaid, Arrives, Synchronises, Polls}
@@ -217,7 +217,7 @@ unfolding if-accepted
 goes a go stay e = rw e
 
 module _ (S : Settings) (now : ℕ) (d : model.DataPacket) (k k′ : Counted) (a : Checked)
-    (f : counted.Follows (k′ .table) (k′ .pairs) (k′ .sources) a (check (S .«source_limit») (S .«announce_timeout») (data-pair now d) (counts k))) where
+    (f : tables.Follows (k′ .table) (k′ .pairs) (k′ .sources) a (check (S .«source_limit») (S .«announce_timeout») (data-pair now d) (counts k))) where
   -- the arrival at any state with this table
   data-said : (s : State) → s .data-pairs ≡ counts k
       → data-arrival S now d s ≡ if-accepted a (accepted S now d (with-data (counts k′) s)) (outcome (with-data (counts k′) s) (stopped a))
@@ -262,7 +262,7 @@ release-said (x ∷ ds) s n b p q =
     λ i. record { state = s; answer = e i; released = x ∷ ds }
 
 module _ (S : Settings) (now : ℕ) (y : model.SyncPacket) (k k′ : Counted) (a : Checked)
-    (f : counted.Follows (k′ .table) (k′ .pairs) (k′ .sources) a (check (S .«source_limit») (S .«announce_timeout») (sync-pair now y) (counts k))) where
+    (f : tables.Follows (k′ .table) (k′ .pairs) (k′ .sources) a (check (S .«source_limit») (S .«announce_timeout») (sync-pair now y) (counts k))) where
   sync-said : (s : State) → s .sync-pairs ≡ counts k
       → sync-arrival S now y s ≡ if-accepted a (synchronise now (y .address) (with-sync (counts k′) s)) (outcome (with-sync (counts k′) s) (stopped a))
   unfolding sync-arrival
@@ -340,12 +340,12 @@ poll-spread S now s = by-data (sweep (S .«announce_timeout») now (s .data-pair
     by-data (d, some k) e = unfold poll spread timeouts timeouts-data in (rw (e, poll) (ap (λ (r : Table × Option Key). (with-data (r .0) s, some k)) e))
     by-data (d, none) e = unfold poll timeouts timeouts-data in (rw (e, poll) (ap (λ (r : Table × Option Key). poll-sync S now (with-data (r .0) s)) e ∙ by-sync d (sweep (S .«announce_timeout») now (s .sync-pairs)) refl))
 
-module _ (S : Settings) (now : ℕ) (q : SequenceNumbering) (m : numbered.Lent) (n : ℕ) (rows : Rows) (store : List ℕ)
-    (q′ : SequenceNumbering) (m′ : numbered.Lent) (a : SweepAnswer)
-    (f : numbered.Follows q′ m′ a (numbered.answered (timeouts (S .«announce_timeout») now (numbered.numbersOf q m)))) where
+module _ (S : Settings) (now : ℕ) (q : SequenceNumbering) (m : sequences.Lent) (n : ℕ) (rows : Rows) (store : List ℕ)
+    (q′ : SequenceNumbering) (m′ : sequences.Lent) (a : SweepAnswer)
+    (f : sequences.Follows q′ m′ a (sequences.answered (timeouts (S .«announce_timeout») now (sequences.numbersOf q m)))) where
   -- the timeouts, with their note
-  checked-by : (o : Option Key) → timeouts (S .«announce_timeout») now (numbered.numbersOf q m) .1 ≡ o → (s : State)
-      → s .data-pairs ≡ numbered.dataOf q m → s .sync-pairs ≡ numbered.syncOf q m → poll S now s ≡ spread now s (numbered.numbersOf q′ m′, o)
+  checked-by : (o : Option Key) → timeouts (S .«announce_timeout») now (sequences.numbersOf q m) .1 ≡ o → (s : State)
+      → s .data-pairs ≡ sequences.dataOf q m → s .sync-pairs ≡ sequences.syncOf q m → poll S now s ≡ spread now s (sequences.numbersOf q′ m′, o)
   checked-by o e s x y =
       poll-spread S now s
       ∙ (λ i. spread now s (timeouts (S .«announce_timeout») now (numbers (x i) (y i))))
@@ -354,12 +354,12 @@ module _ (S : Settings) (now : ℕ) (q : SequenceNumbering) (m : numbered.Lent) 
   pub polls-told : (c : Cid) (u : ℕ) → a ≡ TimedOut c u → entries.Kept n rows store
       → Polls S now q m n rows store q′ m′ n rows store (TimedOut c u)
   polls-told c u e kw =
-      let o = answer-some (timeouts (S .«announce_timeout») now (numbered.numbersOf q m) .1) c u (sym e ∙ f .answer-is) in
+      let o = answer-some (timeouts (S .«announce_timeout») now (sequences.numbersOf q m) .1) c u (sym e ∙ f .answer-is) in
       record {
         timed-out = some (key c u);
         answer-is = refl;
         state-is = λ s x y z. checked-by (some (key c u)) o s x y
-            ∙ (unfold spread in (λ i. (record { data-pairs = numbered.dataOf q′ m′; sync-pairs = numbered.syncOf q′ m′; waiting = z i; listened = s .listened; discovered = s .discovered }, some (key c u))));
+            ∙ (unfold spread in (λ i. (record { data-pairs = sequences.dataOf q′ m′; sync-pairs = sequences.syncOf q′ m′; waiting = z i; listened = s .listened; discovered = s .discovered }, some (key c u))));
         kept = f .kept;
         kept-waiting = kw;
         lent-waiting = lent-none rows store;
@@ -368,12 +368,12 @@ module _ (S : Settings) (now : ℕ) (q : SequenceNumbering) (m : numbered.Lent) 
   pub polls-quiet : (n′ : ℕ) (rows′ : Rows) (store′ : List ℕ) → a ≡ Quiet → SweptCall n rows store now rows′ store′ n′
       → Polls S now q m n rows store q′ m′ n′ rows′ store′ Quiet
   polls-quiet n′ rows′ store′ e c =
-      let o = answer-none (timeouts (S .«announce_timeout») now (numbered.numbersOf q m) .1) (sym e ∙ f .answer-is) in
+      let o = answer-none (timeouts (S .«announce_timeout») now (sequences.numbersOf q m) .1) (sym e ∙ f .answer-is) in
       record {
         timed-out = none;
         answer-is = refl;
         state-is = λ s x y z. checked-by none o s x y
-            ∙ (unfold spread poll-waiting in (λ i. (record { data-pairs = numbered.dataOf q′ m′; sync-pairs = numbered.syncOf q′ m′; waiting = (ap (waiting.swept now) z ∙ sym (c .yields .view)) i; listened = s .listened; discovered = s .discovered }, none)));
+            ∙ (unfold spread poll-waiting in (λ i. (record { data-pairs = sequences.dataOf q′ m′; sync-pairs = sequences.syncOf q′ m′; waiting = (ap (waiting.swept now) z ∙ sym (c .yields .view)) i; listened = s .listened; discovered = s .discovered }, none)));
         kept = f .kept;
         kept-waiting = c .yields .kept;
         lent-waiting = c .yields .lent;

@@ -30,9 +30,9 @@ use Rattle.pairs.specs.Table.{Table, Key}
 use Rattle.pairs.specs.Answers.{answerOf}
 use Rattle.pair_rows.specs.View.{Rows}
 use Rattle.pair_tables.specs.View.{tableOf}
-use Rattle.pair_tables.specs.View as counted
+use Rattle.pair_tables.specs.View as tables
 use Rattle.sequences.specs.declared.SequenceNumbering.{SequenceNumbering}
-use Rattle.sequences.specs.View as numbered
+use Rattle.sequences.specs.View as sequences
 use Rattle.model.specs.declared.StepAnswer.{StepAnswer}
 use Rattle.model.specs.declared.StepAnswer.the-variants as says
 use Rattle.model.specs.Answer.{stepNumber, stepValues}
@@ -118,7 +118,7 @@ abbrev pub counts : Counted → Table
 counts k = tableOf (k .table) (k .pairs) (k .sources)
 
 abbrev pub Kept-counted : Counted → Type 0
-Kept-counted k = counted.Kept (k .table) (k .pairs) (k .sources)
+Kept-counted k = tables.Kept (k .table) (k .pairs) (k .sources)
 
 -- an arriving data packet
 pub record Arrives (S : Settings) (now : ℕ) (d : model.DataPacket) (k : Counted) (m : Lent) (out : List ℕ) (k′ : Counted) (m′ : Lent) (out′ : List ℕ) (answer : StepAnswer) : Type 0 where
@@ -145,11 +145,11 @@ pub record Synchronises (S : Settings) (now : ℕ) (y : model.SyncPacket) (k : C
   pub lent-waiting : waiting.Lent rows store rows′ store′
 
 -- the poll
-pub record Polls (S : Settings) (now : ℕ) (q : SequenceNumbering) (m : numbered.Lent) (n : ℕ) (rows : Rows) (store : List ℕ) (q′ : SequenceNumbering) (m′ : numbered.Lent) (n′ : ℕ) (rows′ : Rows) (store′ : List ℕ) (answer : SweepAnswer) : Type 0 where
+pub record Polls (S : Settings) (now : ℕ) (q : SequenceNumbering) (m : sequences.Lent) (n : ℕ) (rows : Rows) (store : List ℕ) (q′ : SequenceNumbering) (m′ : sequences.Lent) (n′ : ℕ) (rows′ : Rows) (store′ : List ℕ) (answer : SweepAnswer) : Type 0 where
   pub timed-out : Option Key
   pub answer-is : answer ≡ answerOf timed-out
-  pub state-is : (s : State) → s .data-pairs ≡ numbered.dataOf q m → s .sync-pairs ≡ numbered.syncOf q m → s .waiting ≡ waitingOf n rows store
-      → poll S now s ≡ (with-data (numbered.dataOf q′ m′) (with-sync (numbered.syncOf q′ m′) (with-waiting (waitingOf n′ rows′ store′) s)), timed-out)
-  pub kept : numbered.Kept q′ m′
+  pub state-is : (s : State) → s .data-pairs ≡ sequences.dataOf q m → s .sync-pairs ≡ sequences.syncOf q m → s .waiting ≡ waitingOf n rows store
+      → poll S now s ≡ (with-data (sequences.dataOf q′ m′) (with-sync (sequences.syncOf q′ m′) (with-waiting (waitingOf n′ rows′ store′) s)), timed-out)
+  pub kept : sequences.Kept q′ m′
   pub kept-waiting : waiting.Kept n′ rows′ store′
   pub lent-waiting : waiting.Lent rows store rows′ store′

@@ -2,14 +2,14 @@
 ghost use mathlib.Core.Path.{_≡_};
 ghost use Prim.Native.Nat.{_≤_};
 ghost use lib.ListN.{length};
-ghost use Rattle.waiting_store.specs.Entries as held;
-ghost use Rattle.listening.specs.View as hearing;
+ghost use Rattle.waiting_store.specs.Entries.{Kept as WaitingKept};
+ghost use Rattle.listening.specs.View.{Kept as ListeningKept};
 ghost use Rattle.waiting.specs.Answers.{storeNumberOf, storeValuesOf, releaseNumberOf};
 ghost use Rattle.model.specs.Answer.{stepNumber};
 ghost use Rattle.model.specs.Step.{stopped};
 ghost use Rattle.pairs.specs.Table.{numberOf, valuesOf};
-ghost use Rattle.pair_tables.specs.View as counted;
-ghost use Rattle.sequences.specs.View as numbered;
+ghost use Rattle.pair_tables.specs.View.{Kept as TableKept};
+ghost use Rattle.sequences.specs.View.{Kept as SequencesKept, lent as sequence-rows};
 ghost use Rattle.packets.specs.View.{packetOf, syncOf};
 ghost use Rattle.arrivals.specs.View.{dataOf, lentOf, rowsOf, storeSaid, releaseSaid};
 ghost use Rattle.arrivals.specs.View.{Tells, Releases, Holds, Accepts, Arrives, Synchronises, Polls};
@@ -90,7 +90,7 @@ fn release_packet(
     values: &[u8],
     out: &mut [u8],
 ) -> PacketReleased
-    requires { ⌜ held.Kept (waiting .count) (now rows) (now store) × (most-bytes ≤ length (now out)) × (length (now values) ≤ most-values) ⌝ }
+    requires { ⌜ WaitingKept (waiting .count) (now rows) (now store) × (most-bytes ≤ length (now out)) × (length (now values) ≤ most-values) ⌝ }
     ensures { λ r. ⌜ Releases reading (packetOf packet (now (values .entry)))
         (waiting .count) (now (rows .entry)) (now (store .entry)) (now (out .entry))
         (r .waiting .count) (now (rows .exit)) (now (store .exit)) (now (out .exit)) (r .bytes) ⌝ }
@@ -117,7 +117,7 @@ fn hold_packet(
     packet: DataPacket,
     values: &[u8],
 ) -> Accepted
-    requires { ⌜ held.Kept (waiting .count) (now rows) (now store) × hearing.Kept listened (now heard) × (length (now values) ≤ most-values) ⌝ }
+    requires { ⌜ WaitingKept (waiting .count) (now rows) (now store) × ListeningKept listened (now heard) × (length (now values) ≤ most-values) ⌝ }
     ensures { λ r. ⌜ Holds settings reading (packetOf packet (now (values .entry)))
         (lentOf (waiting .count) listened (now (rows .entry)) (now (store .entry)) (now (heard .entry)))
         (lentOf (r .waiting .count) (r .listened) (now (rows .exit)) (now (store .exit)) (now (heard .exit))) (r .answer) ⌝ }
@@ -165,7 +165,7 @@ fn accept_data(
     values: &[u8],
     out: &mut [u8],
 ) -> Accepted
-    requires { ⌜ held.Kept (waiting .count) (now rows) (now store) × hearing.Kept listened (now heard)
+    requires { ⌜ WaitingKept (waiting .count) (now rows) (now store) × ListeningKept listened (now heard)
         × (most-bytes ≤ length (now out)) × (length (now values) ≤ most-values) ⌝ }
     ensures { λ r. ⌜ Accepts settings reading (packetOf packet (now (values .entry)))
         (lentOf (waiting .count) listened (now (rows .entry)) (now (store .entry)) (now (heard .entry))) (now (out .entry))
@@ -267,8 +267,8 @@ pub fn arrive_data(
     values: &[u8],
     out: &mut [u8],
 ) -> DataArrived
-    requires { ⌜ counted.Kept («data» .table) (now pairs) (now sources) × held.Kept (waiting .count) (now rows) (now store)
-        × hearing.Kept listened (now heard) × (most-bytes ≤ length (now out)) × (length (now values) ≤ most-values) ⌝ }
+    requires { ⌜ TableKept («data» .table) (now pairs) (now sources) × WaitingKept (waiting .count) (now rows) (now store)
+        × ListeningKept listened (now heard) × (most-bytes ≤ length (now out)) × (length (now values) ≤ most-values) ⌝ }
     ensures { λ r. ⌜ Arrives settings reading (packetOf packet (now (values .entry)))
         (rowsOf («data» .table) (now (pairs .entry)) (now (sources .entry)))
         (lentOf (waiting .count) listened (now (rows .entry)) (now (store .entry)) (now (heard .entry))) (now (out .entry))
@@ -334,7 +334,7 @@ pub fn arrive_sync(
     packet: SyncPacket,
     out: &mut [u8],
 ) -> SyncArrived
-    requires { ⌜ counted.Kept (sync .table) (now pairs) (now sources) × held.Kept (waiting .count) (now rows) (now store)
+    requires { ⌜ TableKept (sync .table) (now pairs) (now sources) × WaitingKept (waiting .count) (now rows) (now store)
         × (most-bytes ≤ length (now out)) ⌝ }
     ensures { λ r. ⌜ Synchronises settings reading (syncOf packet)
         (rowsOf (sync .table) (now (pairs .entry)) (now (sources .entry)))
@@ -388,12 +388,12 @@ pub fn poll(
     settings: Settings,
     reading: u64,
 ) -> Polled
-    requires { ⌜ numbered.Kept sequences (numbered.lent (now «data_pairs») (now «data_sources») (now «sync_pairs») (now «sync_sources»))
-        × held.Kept (waiting .count) (now rows) (now store) ⌝ }
+    requires { ⌜ SequencesKept sequences (sequence-rows (now «data_pairs») (now «data_sources») (now «sync_pairs») (now «sync_sources»))
+        × WaitingKept (waiting .count) (now rows) (now store) ⌝ }
     ensures { λ r. ⌜ Polls settings reading
-        sequences (numbered.lent (now («data_pairs» .entry)) (now («data_sources» .entry)) (now («sync_pairs» .entry)) (now («sync_sources» .entry)))
+        sequences (sequence-rows (now («data_pairs» .entry)) (now («data_sources» .entry)) (now («sync_pairs» .entry)) (now («sync_sources» .entry)))
         (waiting .count) (now (rows .entry)) (now (store .entry))
-        (r .sequences) (numbered.lent (now («data_pairs» .exit)) (now («data_sources» .exit)) (now («sync_pairs» .exit)) (now («sync_sources» .exit)))
+        (r .sequences) (sequence-rows (now («data_pairs» .exit)) (now («data_sources» .exit)) (now («sync_pairs» .exit)) (now («sync_sources» .exit)))
         (r .waiting .count) (now (rows .exit)) (now (store .exit)) (r .answer) ⌝ }
 {
     let t = sequences.check_timeouts(

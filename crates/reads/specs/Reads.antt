@@ -19,7 +19,7 @@ use Rattle.merge.specs.declared.SourceCid.{SourceCid}
 use Rattle.merge.specs.declared.SourceCid.the-variants.{Merged, Of}
 use Rattle.merge.specs.Merge.{Dmx}
 use Rattle.waiting_store.specs.Entries.{waitingOf, entries, entryOf, nothing, countOf, length-entries}
-use Rattle.waiting_store.specs.Entries as held
+use Rattle.waiting_store.specs.Entries as waiting
 use Rattle.discovery.specs.Discovery.{Page}
 use Rattle.discovery_rows.specs.Rows.{total}
 use Rattle.discovery_reads.specs.declared.SourceHead.{SourceHead}
@@ -135,7 +135,7 @@ waiting-within n m rows store l e =
 pub values-lie : (n i m : ℕ) (rows : List (List ℕ)) (store : List ℕ) → i < n → i < length rows → m ≡ countOf (getD rows i [])
     → take m (drop (i * 513) store) ≡ getD (waitingOf n rows store) i nothing .values
 values-lie n i m rows store h l e =
-    let x : getD (waitingOf n rows store) i nothing ≡ entryOf (getD rows i []) (drop (i * 513) store) = getD-take n (entries rows store) i nothing h ∙ held.entry-at rows store i nothing l in
+    let x : getD (waitingOf n rows store) i nothing ≡ entryOf (getD rows i []) (drop (i * 513) store) = getD-take n (entries rows store) i nothing h ∙ waiting.entry-at rows store i nothing l in
     ap (λ (k : ℕ). take k (drop (i * 513) store)) e ∙ sym (ap (λ (y : Dmx). y .values) x)
 
 -- ── a page ──

@@ -4,10 +4,10 @@ ghost use mathlib.Core.List.{[]};
 ghost use Prim.Native.Nat.{_≤_};
 ghost use lib.ListN.{length, take};
 ghost use Rattle.waiting.specs.Waiting.{store-length};
-ghost use Rattle.waiting_store.specs.Entries as held;
-ghost use Rattle.listening.specs.View as hearing;
-ghost use Rattle.sequences.specs.View as numbered;
-ghost use Rattle.discovery_calls.specs.View as found;
+ghost use Rattle.waiting_store.specs.Entries as waiting;
+ghost use Rattle.listening.specs.View as listening;
+ghost use Rattle.sequences.specs.View as sequences;
+ghost use Rattle.discovery_calls.specs.View as discovery;
 ghost use Rattle.lengths.specs.Space.{bytes};
 ghost use Rattle.packets.specs.View.{packetOf, syncOf};
 ghost use Rattle.model.specs.Packet.{data-packet, sync-packet, discovery-packet};
@@ -109,7 +109,7 @@ pub fn listen(
     n: usize,
     out: &mut [u8],
 ) -> Session
-    requires { ⌜ hearing.Kept (session .receiver .listened) (now heard) × Ready (session .at) (now out) ⌝ }
+    requires { ⌜ listening.Kept (session .receiver .listened) (now heard) × Ready (session .at) (now out) ⌝ }
     ensures { λ r. ⌜ ((m : Memory) → Carries session (with-listened-rows (now (heard .entry)) m) (now (out .entry))
         (called (listen-call (take n (now (list .entry)))) listenNumber listenValues (session .settings)
         (stateOf (session .receiver) (with-listened-rows (now (heard .entry)) m))) r (with-listened-rows (now (heard .exit)) m)
@@ -134,7 +134,7 @@ pub fn mute(
     universe: u16,
     out: &mut [u8],
 ) -> Session
-    requires { ⌜ hearing.Kept (session .receiver .listened) (now heard) × Ready (session .at) (now out) ⌝ }
+    requires { ⌜ listening.Kept (session .receiver .listened) (now heard) × Ready (session .at) (now out) ⌝ }
     ensures { λ r. ⌜ ((m : Memory) → Carries session (with-listened-rows (now (heard .entry)) m) (now (out .entry))
         (called (mute-call universe) muteNumber muteValues (session .settings)
         (stateOf (session .receiver) (with-listened-rows (now (heard .entry)) m))) r (with-listened-rows (now (heard .exit)) m)
@@ -154,7 +154,7 @@ pub fn mute(
 }
 
 pub fn ask(session: Session, heard: &ListenedUniverses, universe: u16, out: &mut [u8]) -> Session
-    requires { ⌜ hearing.Kept (session .receiver .listened) (now heard) × Ready (session .at) (now out) ⌝ }
+    requires { ⌜ listening.Kept (session .receiver .listened) (now heard) × Ready (session .at) (now out) ⌝ }
     ensures { λ r. ⌜ ((m : Memory) → Carries session (with-listened-rows (now (heard .entry)) m) (now (out .entry))
         (asked universe (session .settings) (stateOf (session .receiver) (with-listened-rows (now (heard .entry)) m))) r
         (with-listened-rows (now (heard .entry)) m) (now (out .exit))) ⌝ }
@@ -181,18 +181,18 @@ pub fn poll(
     reading: u64,
     out: &mut [u8],
 ) -> Session
-    requires { ⌜ numbered.Kept (session .receiver .sequences)
-        (numbered.lent (now «data_pairs») (now «data_sources») (now «sync_pairs») (now «sync_sources»)) ×
-        (store-length ≤ length (now store) → held.Kept (session .receiver .waiting .count) (now rows) (now store)) × Ready
+    requires { ⌜ sequences.Kept (session .receiver .sequences)
+        (sequences.lent (now «data_pairs») (now «data_sources») (now «sync_pairs») (now «sync_sources»)) ×
+        (store-length ≤ length (now store) → waiting.Kept (session .receiver .waiting .count) (now rows) (now store)) × Ready
         (session .at) (now out) ⌝ }
     ensures { λ r. ⌜ ((m : Memory) → Carries session
-        (with-sequence-rows (numbered.lent (now («data_pairs» .entry)) (now («data_sources» .entry)) (now («sync_pairs» .entry))
+        (with-sequence-rows (sequences.lent (now («data_pairs» .entry)) (now («data_sources» .entry)) (now («sync_pairs» .entry))
         (now («sync_sources» .entry))) (with-waiting-rows (now (rows .entry)) (now (store .entry)) m)) (now (out .entry))
         (called (poll-call (length (now (store .entry))) (session .settings) reading) pollNumber pollValues (session .settings)
-        (stateOf (session .receiver) (with-sequence-rows (numbered.lent (now («data_pairs» .entry)) (now («data_sources» .entry))
+        (stateOf (session .receiver) (with-sequence-rows (sequences.lent (now («data_pairs» .entry)) (now («data_sources» .entry))
         (now («sync_pairs» .entry)) (now («sync_sources» .entry)))
         (with-waiting-rows (now (rows .entry)) (now (store .entry)) m)))) r
-        (with-sequence-rows (numbered.lent (now («data_pairs» .exit)) (now («data_sources» .exit)) (now («sync_pairs» .exit))
+        (with-sequence-rows (sequences.lent (now («data_pairs» .exit)) (now («data_sources» .exit)) (now («sync_pairs» .exit))
         (now («sync_sources» .exit))) (with-waiting-rows (now (rows .exit)) (now (store .exit)) m)) (now (out .exit))) ⌝ }
 {
     let r = session.receiver;
@@ -226,7 +226,7 @@ pub fn sweep(
     reading: u64,
     out: &mut [u8],
 ) -> Session
-    requires { ⌜ (pool-length ≤ length (now universes) → found.Kept (session .receiver .discovery) (now sources) (now names)
+    requires { ⌜ (pool-length ≤ length (now universes) → discovery.Kept (session .receiver .discovery) (now sources) (now names)
         (now pages) (now universes)) × Ready (session .at) (now out) ⌝ }
     ensures { λ r. ⌜ ((m : Memory) → Carries session
         (with-discovery-rows (now (sources .entry)) (now (names .entry)) (now (pages .entry)) (now (universes .entry)) m)
@@ -256,7 +256,7 @@ pub fn clear(
     universe: u16,
     out: &mut [u8],
 ) -> Session
-    requires { ⌜ (store-length ≤ length (now store) → held.Kept (session .receiver .waiting .count) (now rows) (now store)) ×
+    requires { ⌜ (store-length ≤ length (now store) → waiting.Kept (session .receiver .waiting .count) (now rows) (now store)) ×
         Ready (session .at) (now out) ⌝ }
     ensures { λ r. ⌜ ((m : Memory) → Carries session (with-waiting-rows (now (rows .entry)) (now (store .entry)) m)
         (now (out .entry)) (called (clear-call (length (now (store .entry))) universe) clearNumber clearValues (session .settings)

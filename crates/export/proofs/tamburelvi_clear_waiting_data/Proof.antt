@@ -4,7 +4,7 @@ use mathlib.Core.Path.{sym, subst}
 use Prim.Native.Nat.{_≤_}
 use lib.ListN.{length}
 use Rattle.waiting.specs.Waiting.{store-length}
-use Rattle.waiting_store.specs.Entries as held
+use Rattle.waiting_store.specs.Entries as waiting
 use Rattle.model.specs.Answer.{clearNumber, clearValues}
 use Rattle.model.specs.Calls.{clear-call}
 use Rattle.receiver.specs.View.{with-waiting-rows}
@@ -23,7 +23,7 @@ clear-waiting-data-requires : tie.Need-clear-waiting-data-requires
 clear-waiting-data-requires c κs =
     let s = c .before .before .before .before in
     let v = s .args in
-    subst (λ (x : Receiver). (store-length ≤ length (v .store .now) → held.Kept (x .waiting .count) (v .rows .now) (v .store .now))) (sym (c .before .before .receiver-of .ensures)) (s .pre)
+    subst (λ (x : Receiver). (store-length ≤ length (v .store .now) → waiting.Kept (x .waiting .count) (v .rows .now) (v .store .now))) (sym (c .before .before .receiver-of .ensures)) (s .pre)
 
 header-of-requires : tie.Need-header-of-requires
 header-of-requires c κs = search needs

@@ -1,7 +1,7 @@
 -- What the receiver ensures, told over the boundary.
 -- Assumes nothing.
 use mathlib.Core.Path.{_≡_, sym, subst}
-use Rattle.listening.specs.View as hearing
+use Rattle.listening.specs.View as listening
 use Rattle.model.specs.State.{listens}
 use Rattle.receiver.specs.declared.Receiver.{Receiver}
 use Rattle.receiver.specs.View.{with-listened-rows, stateOf}
@@ -15,7 +15,7 @@ receiver-of-requires c κs = search needs
 is-listening-requires : tie.Need-is-listening-requires
 is-listening-requires c κs =
     let s = c .before in
-    subst (λ (x : Receiver). hearing.Kept (x .listened) (s .args .heard .now)) (sym (c .receiver-of .ensures)) (s .pre)
+    subst (λ (x : Receiver). listening.Kept (x .listened) (s .args .heard .now)) (sym (c .receiver-of .ensures)) (s .pre)
 
 returns : tie.Need-returns
 returns c m =

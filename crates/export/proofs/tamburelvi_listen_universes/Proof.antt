@@ -1,7 +1,7 @@
 -- What the receiver's call ensures, told over the boundary.
 -- Assumes nothing.
 use mathlib.Core.Path.{sym, subst}
-use Rattle.listening.specs.View as hearing
+use Rattle.listening.specs.View as listening
 use Rattle.model.specs.Answer.{listenNumber, listenValues}
 use Rattle.model.specs.Calls.{listen-call}
 use Rattle.receiver.specs.View.{with-listened-rows}
@@ -20,7 +20,7 @@ listen-universes-requires : tie.Need-listen-universes-requires
 listen-universes-requires c κs =
     let s = c .before .before .before in
     let v = s .args in
-    subst (λ (x : Receiver). hearing.Kept (x .listened) (v .heard .now)) (sym (c .before .receiver-of .ensures)) (s .pre)
+    subst (λ (x : Receiver). listening.Kept (x .listened) (v .heard .now)) (sym (c .before .receiver-of .ensures)) (s .pre)
 
 header-of-requires : tie.Need-header-of-requires
 header-of-requires c κs = search needs

@@ -5,9 +5,9 @@ use Prim.Native.Nat.{_≤_}
 use lib.ListN.{length}
 use Rattle.settings.specs.declared.Settings.{Settings}
 use Rattle.sequences.specs.View.{lent}
-use Rattle.sequences.specs.View as numbered
+use Rattle.sequences.specs.View as sequences
 use Rattle.waiting.specs.Waiting.{store-length}
-use Rattle.waiting_store.specs.Entries as held
+use Rattle.waiting_store.specs.Entries as waiting
 use Rattle.model.specs.Answer.{pollNumber, pollValues}
 use Rattle.model.specs.Calls.{poll-call}
 use Rattle.receiver.specs.View.{with-sequence-rows, with-waiting-rows, Does}
@@ -29,7 +29,7 @@ poll-requires : tie.Need-poll-requires
 poll-requires c κs =
     let s = c .before .before .before .before .before .before .before .before .before in
     let v = s .args in
-    subst (λ (x : Receiver). numbered.Kept (x .sequences) (lent (v .data-pairs .now) (v .data-sources .now) (v .sync-pairs .now) (v .sync-sources .now)) × (store-length ≤ length (v .store .now) → held.Kept (x .waiting .count) (v .rows .now) (v .store .now))) (sym (c .before .before .before .before .before .before .before .receiver-of .ensures)) (s .pre)
+    subst (λ (x : Receiver). sequences.Kept (x .sequences) (lent (v .data-pairs .now) (v .data-sources .now) (v .sync-pairs .now) (v .sync-sources .now)) × (store-length ≤ length (v .store .now) → waiting.Kept (x .waiting .count) (v .rows .now) (v .store .now))) (sym (c .before .before .before .before .before .before .before .receiver-of .ensures)) (s .pre)
 
 header-of-requires : tie.Need-header-of-requires
 header-of-requires c κs = search needs

@@ -3,7 +3,7 @@
 use mathlib.Core.Path.{sym, subst}
 use Prim.Native.Nat.{_≤_}
 use lib.ListN.{length}
-use Rattle.discovery_calls.specs.View as found
+use Rattle.discovery_calls.specs.View as discovery
 use Rattle.lengths.specs.Space.{bytes}
 use Rattle.model.specs.Answer.{expiryNumber, expiryValues}
 use Rattle.model.specs.Calls.{expiry-call}
@@ -24,7 +24,7 @@ remove-expired-sources-requires : tie.Need-remove-expired-sources-requires
 remove-expired-sources-requires c κs =
     let s = c .before .before .before .before .before .before in
     let v = s .args in
-    subst (λ (x : Receiver). (pool-length ≤ length (v .universes .now) → found.Kept (x .discovery) (v .sources .now) (v .names .now) (v .pages .now) (v .universes .now))) (sym (c .before .before .before .before .receiver-of .ensures)) (s .pre)
+    subst (λ (x : Receiver). (pool-length ≤ length (v .universes .now) → discovery.Kept (x .discovery) (v .sources .now) (v .names .now) (v .pages .now) (v .universes .now))) (sym (c .before .before .before .before .receiver-of .ensures)) (s .pre)
 
 header-of-requires : tie.Need-header-of-requires
 header-of-requires c κs = search needs
