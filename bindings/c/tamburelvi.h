@@ -1,7 +1,7 @@
 /* Tamburelvi: a proved ANSI E1.31 (sACN) receiver.
  *
- * Link with libexport.a, which `rt staticlib export` writes. The functions allocate nothing, keep nothing between calls, print nothing and never fail but by
- * their answer. They hold what their contracts in crates/export promise as long as the caller keeps this:
+ * Link with libtamburelvi.a, which `rt staticlib tamburelvi` writes. The functions allocate nothing, keep nothing between calls, print nothing and never fail but by
+ * their answer. They hold what their contracts in crates/tamburelvi promise as long as the caller keeps this:
  *
  *  1. No pointer is null, not even with a length of 0. Each points to memory of the type that it says, aligned for that type, of at least the length that
  *     stands beside it. Where no length stands beside it, its type says the length, as in uint64_t[1024][4].

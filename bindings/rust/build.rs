@@ -1,4 +1,4 @@
-//! Links libexport.a, which `rt staticlib export` writes. TAMBURELVI_LIB names another folder for it.
+//! Links libtamburelvi.a, which `rt staticlib tamburelvi` writes. TAMBURELVI_LIB names another folder for it.
 
 use std::path::PathBuf;
 
@@ -7,14 +7,14 @@ fn main() {
     let beside =
         PathBuf::from(std::env::var("CARGO_MANIFEST_DIR").unwrap()).join("../../target/staticlib");
     let folder = std::env::var("TAMBURELVI_LIB").map_or(beside, PathBuf::from);
-    let library = folder.join("libexport.a");
+    let library = folder.join("libtamburelvi.a");
     println!("cargo::rerun-if-changed={}", library.display());
     if library.exists() {
         println!("cargo::rustc-link-search=native={}", folder.display());
-        println!("cargo::rustc-link-lib=static=export");
+        println!("cargo::rustc-link-lib=static=tamburelvi");
     } else {
         println!(
-            "cargo::error={} is missing: run `rt staticlib export` in the root of the repository",
+            "cargo::error={} is missing: run `rt staticlib tamburelvi` in the root of the repository",
             library.display()
         );
     }

@@ -1,4 +1,4 @@
-//! The functions of libexport.a, as bindings/c/tamburelvi.h has them.
+//! The functions of libtamburelvi.a, as bindings/c/tamburelvi.h has them.
 
 #[derive(Clone, Copy)]
 #[repr(C)]

@@ -1,6 +1,6 @@
 //! A proved ANSI E1.31 (sACN) receiver: sequence numbers, waiting data, merging, termination and discovery, without sockets and without a clock.
 //!
-//! The work is done by libexport.a, each function of which is proved equal to its definition. This crate owns the memory that the library is lent, hands
+//! The work is done by libtamburelvi.a, each function of which is proved equal to its definition. This crate owns the memory that the library is lent, hands
 //! every call the state that the last one left, and turns numbers into enums. That is all that the library asks of its caller.
 //!
 //! ```
@@ -203,7 +203,7 @@ fn stopped<'a>(a: &ffi::Answer, name: &'a [u8]) -> Result<(), Stop<'a>> {
 
 // A number that the call does not have is the library's bug or this crate's, and is not shown as another.
 fn unknown(number: u8) -> ! {
-    panic!("a bug: libexport.a answered {number}, which this crate does not know of the call")
+    panic!("a bug: libtamburelvi.a answered {number}, which this crate does not know of the call")
 }
 
 // The answer of a call that nothing stops with the memory that this crate lends.
@@ -276,7 +276,7 @@ impl Receiver {
                 answer.first,
             )),
             kind => {
-                panic!("a bug: libexport.a gave 0 with values of kind {kind}, which no step has")
+                panic!("a bug: libtamburelvi.a gave 0 with values of kind {kind}, which no step has")
             }
         })
     }
@@ -570,7 +570,7 @@ mod tests {
     }
 
     #[test]
-    #[should_panic(expected = "a bug: libexport.a answered 17,")]
+    #[should_panic(expected = "a bug: libtamburelvi.a answered 17,")]
     fn an_unknown_number_is_a_bug() {
         let _ = stopped(&numbered(17), &[]);
     }

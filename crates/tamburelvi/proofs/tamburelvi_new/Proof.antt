@@ -1,9 +1,9 @@
 -- What the receiver ensures, told over the boundary.
 -- Assumes nothing.
-use Rattle.export.specs.Laws.{begun}
+use Rattle.tamburelvi.specs.Laws.{begun}
 use borrow.Author.Needs.{needs}
-use Rattle.export.proofs.tamburelvi_new.Statement.{statement}
-use Rattle.export.proofs.tamburelvi_new.Tie as tie
+use Rattle.tamburelvi.proofs.tamburelvi_new.Statement.{statement}
+use Rattle.tamburelvi.proofs.tamburelvi_new.Tie as tie
 
 new-requires : tie.Need-new-requires
 new-requires c κs = search needs

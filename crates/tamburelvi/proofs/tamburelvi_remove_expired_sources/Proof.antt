@@ -11,11 +11,11 @@ use Rattle.discovery.specs.Discovery.{pool-length}
 use Rattle.receiver.specs.View.{with-discovery-rows}
 use Rattle.receiver.specs.declared.Receiver.{Receiver}
 use Rattle.boundary.specs.Boundary.{sweptOf}
-use Rattle.export.specs.Laws.{answers}
+use Rattle.tamburelvi.specs.Laws.{answers}
 use Rattle.boundary.specs.Laws.{tells-expiry}
 use borrow.Author.Needs.{needs}
-use Rattle.export.proofs.tamburelvi_remove_expired_sources.Statement.{statement}
-use Rattle.export.proofs.tamburelvi_remove_expired_sources.Tie as tie
+use Rattle.tamburelvi.proofs.tamburelvi_remove_expired_sources.Statement.{statement}
+use Rattle.tamburelvi.proofs.tamburelvi_remove_expired_sources.Tie as tie
 
 receiver-of-requires : tie.Need-receiver-of-requires
 receiver-of-requires c κs = search needs

@@ -6,8 +6,8 @@ use Rattle.model.specs.State.{listens}
 use Rattle.receiver.specs.declared.Receiver.{Receiver}
 use Rattle.receiver.specs.View.{with-listened-rows, stateOf}
 use borrow.Author.Needs.{needs}
-use Rattle.export.proofs.tamburelvi_is_listening.Statement.{statement}
-use Rattle.export.proofs.tamburelvi_is_listening.Tie as tie
+use Rattle.tamburelvi.proofs.tamburelvi_is_listening.Statement.{statement}
+use Rattle.tamburelvi.proofs.tamburelvi_is_listening.Tie as tie
 
 receiver-of-requires : tie.Need-receiver-of-requires
 receiver-of-requires c κs = search needs

@@ -7,11 +7,11 @@ use Rattle.model.specs.Calls.{mute-call}
 use Rattle.receiver.specs.View.{with-listened-rows}
 use Rattle.receiver.specs.declared.Receiver.{Receiver}
 use Rattle.boundary.specs.Boundary.{mutedOf}
-use Rattle.export.specs.Laws.{answers}
+use Rattle.tamburelvi.specs.Laws.{answers}
 use Rattle.boundary.specs.Laws.{tells-mute}
 use borrow.Author.Needs.{needs}
-use Rattle.export.proofs.tamburelvi_mute_universe.Statement.{statement}
-use Rattle.export.proofs.tamburelvi_mute_universe.Tie as tie
+use Rattle.tamburelvi.proofs.tamburelvi_mute_universe.Statement.{statement}
+use Rattle.tamburelvi.proofs.tamburelvi_mute_universe.Tie as tie
 
 receiver-of-requires : tie.Need-receiver-of-requires
 receiver-of-requires c κs = search needs

@@ -13,11 +13,11 @@ use Rattle.model.specs.Calls.{poll-call}
 use Rattle.receiver.specs.View.{with-sequence-rows, with-waiting-rows, Does}
 use Rattle.receiver.specs.declared.Receiver.{Receiver}
 use Rattle.boundary.specs.Boundary.{settingsOf, polledOf}
-use Rattle.export.specs.Laws.{answers}
+use Rattle.tamburelvi.specs.Laws.{answers}
 use Rattle.boundary.specs.Laws.{tells-poll}
 use borrow.Author.Needs.{needs}
-use Rattle.export.proofs.tamburelvi_poll.Statement.{statement}
-use Rattle.export.proofs.tamburelvi_poll.Tie as tie
+use Rattle.tamburelvi.proofs.tamburelvi_poll.Statement.{statement}
+use Rattle.tamburelvi.proofs.tamburelvi_poll.Tie as tie
 
 receiver-of-requires : tie.Need-receiver-of-requires
 receiver-of-requires c κs = search needs

@@ -13,7 +13,7 @@ ghost use Rattle.laws.specs.Lent.{untouched};
 ghost use Rattle.receiver.specs.View.{Memory, with-listened-rows, stateOf, KeptWaiting, KeptDiscovery, Kept, Begins, Becomes};
 ghost use Rattle.receiver.specs.Lent.{sequences-in, lent-in, lent, sequences-lent, waiting-lent, listened-lent, discovery-lent};
 ghost use Rattle.boundary.specs.Boundary.{receiverOf, mergeOf, settingsOf, packetIn, syncIn, announcedIn};
-ghost use Rattle.export.specs.Promises.{Replies, Answers};
+ghost use Rattle.tamburelvi.specs.Promises.{Replies, Answers};
 ghost use Rattle.model.specs.Step.{most-listened};
 
 pub mod read_outs;

@@ -10,11 +10,11 @@ use Rattle.model.specs.Calls.{clear-call}
 use Rattle.receiver.specs.View.{with-waiting-rows}
 use Rattle.receiver.specs.declared.Receiver.{Receiver}
 use Rattle.boundary.specs.Boundary.{clearedOf}
-use Rattle.export.specs.Laws.{answers}
+use Rattle.tamburelvi.specs.Laws.{answers}
 use Rattle.boundary.specs.Laws.{tells-clear}
 use borrow.Author.Needs.{needs}
-use Rattle.export.proofs.tamburelvi_clear_waiting_data.Statement.{statement}
-use Rattle.export.proofs.tamburelvi_clear_waiting_data.Tie as tie
+use Rattle.tamburelvi.proofs.tamburelvi_clear_waiting_data.Statement.{statement}
+use Rattle.tamburelvi.proofs.tamburelvi_clear_waiting_data.Tie as tie
 
 receiver-of-requires : tie.Need-receiver-of-requires
 receiver-of-requires c κs = search needs

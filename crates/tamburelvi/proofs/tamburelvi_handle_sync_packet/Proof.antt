@@ -4,10 +4,10 @@ use mathlib.Core.Path.{ap}
 use Rattle.model.specs.Packet.{sync-packet}
 use Rattle.receiver.specs.View.{memory}
 use Rattle.boundary.specs.Boundary.{settingsOf, syncIn}
-use Rattle.export.specs.Laws.{kept-there, replies}
+use Rattle.tamburelvi.specs.Laws.{kept-there, replies}
 use borrow.Author.Needs.{needs}
-use Rattle.export.proofs.tamburelvi_handle_sync_packet.Statement.{statement}
-use Rattle.export.proofs.tamburelvi_handle_sync_packet.Tie as tie
+use Rattle.tamburelvi.proofs.tamburelvi_handle_sync_packet.Statement.{statement}
+use Rattle.tamburelvi.proofs.tamburelvi_handle_sync_packet.Tie as tie
 
 receiver-of-requires : tie.Need-receiver-of-requires
 receiver-of-requires c κs = search needs

@@ -1,10 +1,10 @@
 -- What the receiver ensures, told over the boundary.
 -- Assumes nothing.
 use Rattle.model.specs.Calls.{clear-all-call}
-use Rattle.export.specs.Laws.{become}
+use Rattle.tamburelvi.specs.Laws.{become}
 use borrow.Author.Needs.{needs}
-use Rattle.export.proofs.tamburelvi_clear_all_waiting_data.Statement.{statement}
-use Rattle.export.proofs.tamburelvi_clear_all_waiting_data.Tie as tie
+use Rattle.tamburelvi.proofs.tamburelvi_clear_all_waiting_data.Statement.{statement}
+use Rattle.tamburelvi.proofs.tamburelvi_clear_all_waiting_data.Tie as tie
 
 receiver-of-requires : tie.Need-receiver-of-requires
 receiver-of-requires c κs = search needs

@@ -15,7 +15,7 @@ use Rattle.boundary.specs.declared.Header.{Header}
 use Rattle.boundary.specs.declared.Answer.{Answer}
 use Rattle.boundary.specs.declared.Reply.{Reply}
 use Rattle.boundary.specs.Boundary.{receiverOf, headerOf, replyOf}
-use Rattle.export.specs.Promises.{Replies, Answers}
+use Rattle.tamburelvi.specs.Promises.{Replies, Answers}
 use Rattle.boundary.specs.Laws.{step-number, step-values, Tells}
 
 pub kept-there : (h : Header) (r : Receiver) (m : Memory) → r ≡ receiverOf h → Kept (receiverOf h) m → Kept r m
