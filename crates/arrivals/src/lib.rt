@@ -1,4 +1,4 @@
-// The parts of a step that follow the poll: what a packet makes of the tables that it touches. The receiver puts them together.
+// The poll, and what a packet behind it makes of the tables that it touches. Crate steps puts them together.
 ghost use mathlib.Core.Path.{_≡_};
 ghost use Prim.Native.Nat.{_≤_};
 ghost use lib.ListN.{length};

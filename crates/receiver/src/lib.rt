@@ -1,4 +1,4 @@
-// Document 01, 'The receiver': a step on each kind of packet, and the further calls. What is small goes in and comes back by value; the memory is lent to every call.
+// Document 01, 'The receiver': the receiver and every call but the step. What is small goes in and comes back by value; the memory is lent to every call.
 ghost use mathlib.Core.Path.{_≡_};
 ghost use lib.ListN.{length};
 ghost use Rattle.listening.specs.View as listening;

@@ -183,7 +183,7 @@ pub record Asked (S : Settings) (told-north told-south : List Telling) (places :
   pub one-first : (i j now then : ℕ) (d e : DataPacket) → DataAt north i now d → DataAt north j then e → d .universe ≡ e .universe
       → getElem? (d .values) 0 ≡ getElem? (e .values) 0
 
--- One premise stands apart from `Asked`, since it is asked of answers: of the definition's in `Demand-3`, of those that the caller sees in the crate `runs`
+-- One premise stands apart from `Asked`, since it is asked of answers: of the definition's in `Demand-3`, of those that the caller sees in the crate `reorder_code`
 pub record NeitherFull (north south : List Answered) : Type 0 where
   -- "and neither run gives 10 to 13"
   pub north-fits : NoneFull north

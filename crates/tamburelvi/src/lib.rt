@@ -75,7 +75,8 @@ pub extern "C" fn tamburelvi_handle_data_packet(
         (lent-in «data_pairs» «data_sources» «sync_pairs» «sync_sources» rows store heard sources names pages universes) ⌝ }
     ensures { λ r.
         let m = lent «data_pairs» «data_sources» «sync_pairs» «sync_sources» rows store heard sources names pages universes in
-        ⌜ Replies (settingsOf choices) reading (data-packet (packetIn «data» (now (values .entry)))) header (m .entry) (now (out .entry)) r (m .exit) (now (out .exit)) ⌝ }
+        ⌜ Replies (settingsOf choices) reading (data-packet (packetIn «data» (now (values .entry))))
+        header (m .entry) (now (out .entry)) r (m .exit) (now (out .exit)) ⌝ }
 {
     let receiver = receiver_of(header);
     let settings = settings_of(choices);
@@ -126,7 +127,8 @@ pub extern "C" fn tamburelvi_handle_sync_packet(
         (lent-in «data_pairs» «data_sources» «sync_pairs» «sync_sources» rows store heard sources names pages universes) ⌝ }
     ensures { λ r.
         let m = lent «data_pairs» «data_sources» «sync_pairs» «sync_sources» rows store heard sources names pages universes in
-        ⌜ Replies (settingsOf choices) reading (sync-packet (syncIn sync)) header (m .entry) (now (out .entry)) r (m .exit) (now (out .exit)) ⌝ }
+        ⌜ Replies (settingsOf choices) reading (sync-packet (syncIn sync))
+        header (m .entry) (now (out .entry)) r (m .exit) (now (out .exit)) ⌝ }
 {
     let receiver = receiver_of(header);
     let settings = settings_of(choices);
@@ -178,7 +180,8 @@ pub extern "C" fn tamburelvi_handle_universe_discovery_packet(
         (lent-in «data_pairs» «data_sources» «sync_pairs» «sync_sources» rows store heard sources names pages universes) ⌝ }
     ensures { λ r.
         let m = lent «data_pairs» «data_sources» «sync_pairs» «sync_sources» rows store heard sources names pages universes in
-        ⌜ Replies (settingsOf choices) reading (discovery-packet (announcedIn page (now (name .entry)) (now (list .entry)))) header (m .entry) (now (out .entry)) r (m .exit) (now (out .exit)) ⌝ }
+        ⌜ Replies (settingsOf choices) reading (discovery-packet (announcedIn page (now (name .entry)) (now (list .entry))))
+        header (m .entry) (now (out .entry)) r (m .exit) (now (out .exit)) ⌝ }
 {
     let receiver = receiver_of(header);
     let settings = settings_of(choices);
