@@ -11,6 +11,7 @@ static uint8_t out[TAMBURELVI_OUTPUT];
 static uint8_t values[TAMBURELVI_VALUES + 1];
 static uint8_t name[TAMBURELVI_NAME + 1];
 static uint16_t list[1100];
+static uint8_t beside[2 + TAMBURELVI_OUTPUT + 2];
 
 /* ---- what is printed ---- */
 
@@ -128,12 +129,17 @@ static void show_settings(void) {
         s->announce_stream_termination, s->announce_timeout, s->merge, s->source_limit);
 }
 
-/* ---- packets: every byte of the CID is the source's ---- */
+/* ---- packets ---- */
+
+/* The CID of the trial value, sixteen bytes of hexadecimal 11, or sixteen that differ. */
+static void fill(uint8_t cid[TAMBURELVI_CID], uint8_t source) {
+    for (int i = 0; i < TAMBURELVI_CID; i++) cid[i] = (uint8_t)(source == 0x11 ? source : source + i);
+}
 
 static tamburelvi_data_packet data(uint8_t source, uint16_t universe, uint16_t address, uint8_t sequence, size_t count) {
     tamburelvi_data_packet p;
     memset(&p, 0, sizeof p);
-    memset(p.cid, source, sizeof p.cid);
+    fill(p.cid, source);
     p.universe = universe;
     p.address = address;
     p.priority = 100;
@@ -149,7 +155,7 @@ static tamburelvi_answer take(uint64_t reading, tamburelvi_data_packet p) {
 
 static tamburelvi_answer take_sync(uint64_t reading, uint8_t source, uint16_t address, uint8_t sequence, size_t out_length) {
     tamburelvi_sync_packet p;
-    memset(p.cid, source, sizeof p.cid);
+    fill(p.cid, source);
     p.address = address;
     p.sequence = sequence;
     return tamburelvi_receiver_handle_sync_packet(r, reading, &p, out, out_length);
@@ -157,7 +163,7 @@ static tamburelvi_answer take_sync(uint64_t reading, uint8_t source, uint16_t ad
 
 static tamburelvi_discovery_packet page(uint8_t source, uint8_t number, uint8_t last, size_t name_length, size_t list_length) {
     tamburelvi_discovery_packet p;
-    memset(p.cid, source, sizeof p.cid);
+    fill(p.cid, source);
     p.page = number;
     p.last_page = last;
     p.name = name;
@@ -246,6 +252,13 @@ static void unmade_packets(void) {
     d.values = out + sizeof out - 1;
     d.values_length = 1;
     show("values at the output's end", take(0, d));
+    d.values = beside;
+    d.values_length = 2;
+    show("values just before the output", tamburelvi_receiver_handle_data_packet(r, 0, &d, beside + 2, TAMBURELVI_OUTPUT));
+    d.values = beside + 2 + TAMBURELVI_OUTPUT;
+    show("values just behind the output", tamburelvi_receiver_handle_data_packet(r, 0, &d, beside + 2, TAMBURELVI_OUTPUT));
+    d.values = beside + 1;
+    show("values that end in the output", tamburelvi_receiver_handle_data_packet(r, 0, &d, beside + 2, TAMBURELVI_OUTPUT));
     d.values = values;
     show("output in the receiver",
         tamburelvi_receiver_handle_data_packet(r, 0, &d, receiver.memory.store, sizeof receiver.memory.store));
@@ -256,7 +269,11 @@ static void unmade_packets(void) {
     show("no name", take_page(0, g));
     g.name = out;
     show("a name in the output", take_page(0, g));
+    g.name = receiver.memory.names.row[0];
+    show("a name in the receiver", take_page(0, g));
     g = page(1, 0, 0, 4, 2);
+    show("output in the universes",
+        tamburelvi_receiver_handle_universe_discovery_packet(r, 0, &g, (const uint8_t *)list, sizeof list));
     g.universes = NULL;
     show("no universes", take_page(0, g));
     g.universes = receiver.memory.universes;
@@ -318,50 +335,51 @@ static void unsynchronised(void) {
     show_release("no values, by their length", take(1050, d));
     show("universe 2, not listened to", take(1050, data(0x11, 2, 0, 3, 2)));
     show_pairs();
+    show("reset", tamburelvi_receiver_reset_sources(r));
 }
 
 /* Step 3 with an address, step 4; 'Merging': the larger value at each place, the longer tail, no CID, the earlier reading. */
 static void synchronised(void) {
     show("merge by highest value", tamburelvi_receiver_set_merge(r, TAMBURELVI_HTP_DMX_MERGE));
     values[1] = 10;
-    show("A under 7", take(1100, data(0x11, 1, 7, 3, 2)));
+    show("A under 7", take(1100, data(0x30, 1, 7, 3, 2)));
     show_waiting();
     values[1] = 5;
     values[2] = 6;
-    show("B under 7", take(1150, data(0x22, 1, 7, 0, 3)));
+    show("B under 7", take(1150, data(0x40, 1, 7, 0, 3)));
     show_waiting();
-    show("synchronisation, output of 100", take_sync(1200, 0x11, 7, 0, 100));
-    show_release("synchronisation", take_sync(1200, 0x11, 7, 0, sizeof out));
-    show("the same again", take_sync(1200, 0x11, 7, 0, sizeof out));
-    show("the next", take_sync(1250, 0x11, 7, 1, sizeof out));
-    show("address 99, not listened to", take_sync(1250, 0x11, 99, 0, sizeof out));
+    show("synchronisation, output of 100", take_sync(1200, 0x30, 7, 0, 100));
+    show_release("synchronisation", take_sync(1200, 0x30, 7, 0, sizeof out));
+    show("the same again", take_sync(1200, 0x30, 7, 0, sizeof out));
+    show("the next", take_sync(1250, 0x30, 7, 1, sizeof out));
+    show("address 99, not listened to", take_sync(1250, 0x30, 99, 0, sizeof out));
     show_waiting();
     show_pairs();
 }
 
 /* 8: an empty list is not merged, and both are lost; 2 in a step: the stored sequence stands. */
 static void refused(void) {
-    show("no values under 7", take(1300, data(0x11, 1, 7, 4, 0)));
-    show("two values under 7", take(1300, data(0x11, 1, 7, 5, 2)));
+    show("no values under 7", take(1300, data(0x30, 1, 7, 4, 0)));
+    show("two values under 7", take(1300, data(0x30, 1, 7, 5, 2)));
     show_waiting();
     show("clear 1, which has none", tamburelvi_receiver_clear_waiting_data(r, 1));
-    show("two values under 7", take(1300, data(0x11, 1, 7, 6, 2)));
+    show("two values under 7", take(1300, data(0x30, 1, 7, 6, 2)));
     show("clear 1", tamburelvi_receiver_clear_waiting_data(r, 1));
-    show("two values under 7", take(1300, data(0x11, 1, 7, 7, 2)));
+    show("two values under 7", take(1300, data(0x30, 1, 7, 7, 2)));
     show("clear all", tamburelvi_receiver_clear_all_waiting_data(r));
     show_waiting();
-    show("address 64000", take(1300, data(0x11, 1, 64000, 8, 2)));
-    show("the same again", take(1300, data(0x11, 1, 64000, 8, 2)));
+    show("address 64000", take(1300, data(0x30, 1, 64000, 8, 2)));
+    show("the same again", take(1300, data(0x30, 1, 64000, 8, 2)));
 }
 
 /* Terminated: drop the pair; then 5 if announced, else nothing. The sync pair of address 7 is another pair. */
 static void terminated(void) {
-    tamburelvi_data_packet d = data(0x11, 1, 0, 8, 0);
+    tamburelvi_data_packet d = data(0x30, 1, 0, 8, 0);
     d.terminated = true;
     show("announce terminations", tamburelvi_receiver_set_announce_stream_termination(r, true));
     show("A ends 1", take(1300, d));
     show("do not", tamburelvi_receiver_set_announce_stream_termination(r, false));
-    memset(d.cid, 0x22, sizeof d.cid);
+    fill(d.cid, 0x40);
     show("B ends 1", take(1300, d));
     show_pairs();
 }
@@ -372,28 +390,37 @@ static void limit(void) {
     show_settings();
     show("limit 1", tamburelvi_receiver_set_source_limit(r, 1));
     show_settings();
-    show("A", take(1400, data(0x11, 1, 0, 0, 2)));
-    show("B", take(1400, data(0x22, 1, 0, 0, 2)));
+    show("A", take(1400, data(0x30, 1, 0, 0, 2)));
+    show("B", take(1400, data(0x40, 1, 0, 0, 2)));
     show("no limit", tamburelvi_receiver_clear_source_limit(r));
-    show("B", take(1400, data(0x22, 1, 0, 0, 2)));
+    show("B", take(1400, data(0x40, 1, 0, 0, 2)));
     show("fresh settings", tamburelvi_receiver_fresh_settings(r));
     show_settings();
 }
 
-/* Age 2,499 is live, 2,500 expired; the packet of a step that gave 4 was not taken. */
+/* Age 2,499 is live, 2,500 expired; the data table is swept before the sync table; the packet of a step that gave 4 was not
+ * taken. */
 static void timeouts(void) {
     show("reset", tamburelvi_receiver_reset_sources(r));
     show_pairs();
     show("announce timeouts", tamburelvi_receiver_set_announce_timeout(r, true));
-    show("A at 10,000", take(10000, data(0x11, 1, 0, 0, 2)));
+    show("A at 10,000", take(10000, data(0x30, 1, 0, 0, 2)));
     show("poll at 12,499", tamburelvi_receiver_poll(r, 12499));
     show("poll at 12,500", tamburelvi_receiver_poll(r, 12500));
     show("poll again", tamburelvi_receiver_poll(r, 12500));
-    show("A at 20,000", take(20000, data(0x11, 1, 0, 0, 2)));
-    show("B at 22,500", take(22500, data(0x22, 1, 0, 0, 2)));
-    show("B again", take(22500, data(0x22, 1, 0, 0, 2)));
+    show("A at 15,000", take(15000, data(0x30, 1, 0, 0, 2)));
+    show("B at 17,500", take(17500, data(0x40, 1, 0, 0, 2)));
+    show("B again", take(17500, data(0x40, 1, 0, 0, 2)));
+    show("synchronisation of A at 17,510", take_sync(17510, 0x30, 7, 0, sizeof out));
+    show("a page of A at 20,000", take_page(20000, page(0x30, 0, 0, 4, 1)));
+    show("synchronisation of B at 20,010", take_sync(20010, 0x40, 7, 0, sizeof out));
+    show("synchronisation of B again", take_sync(20010, 0x40, 7, 0, sizeof out));
+    show("A at 20,020", take(20020, data(0x30, 1, 0, 0, 2)));
+    show("poll at 22,510", tamburelvi_receiver_poll(r, 22510));
+    show("poll at 22,520", tamburelvi_receiver_poll(r, 22520));
+    show("A at 22,520", take(22520, data(0x30, 1, 0, 0, 2)));
     show("do not", tamburelvi_receiver_set_announce_timeout(r, false));
-    show("poll at 25,000", tamburelvi_receiver_poll(r, 25000));
+    show("poll at 25,020", tamburelvi_receiver_poll(r, 25020));
     show_pairs();
 }
 
@@ -405,20 +432,21 @@ static void discovery(void) {
     list[0] = 1;
     list[1] = 2;
     show("announce discoveries", tamburelvi_receiver_set_announce_source_discovery(r, true));
-    show("A, page 0 of 0", take_page(30000, page(0x11, 0, 0, 4, 2)));
+    show("A, page 0 of 0", take_page(30000, page(0x30, 0, 0, 4, 2)));
     memcpy(name, "rack", 4);
-    show("B, page 1 of 1", take_page(30001, page(0x22, 1, 1, 4, 1)));
+    show("B, page 1 of 1", take_page(30001, page(0x40, 1, 1, 4, 1)));
     show_sources();
-    g = page(0x22, 0, 1, 0, 0);
+    g = page(0x40, 0, 1, 0, 0);
     g.name = NULL;
     g.universes = NULL;
     show("B, page 0 of 1", take_page(30002, g));
-    show("a name of 64", take_page(30002, page(0x22, 0, 0, TAMBURELVI_NAME + 1, 1)));
-    show("a list of 513", take_page(30002, page(0x22, 0, 0, 4, TAMBURELVI_PAGE + 1)));
-    show("both", take_page(30002, page(0x22, 0, 0, TAMBURELVI_NAME + 1, TAMBURELVI_PAGE + 1)));
-    g = page(0x22, 0, 0, 4, 1);
+    show("C, page 0 of 1", take_page(30002, page(0x50, 0, 1, 4, 1)));
+    show("a name of 64", take_page(30002, page(0x40, 0, 0, TAMBURELVI_NAME + 1, 1)));
+    show("a list of 513", take_page(30002, page(0x40, 0, 0, 4, TAMBURELVI_PAGE + 1)));
+    show("both", take_page(30002, page(0x40, 0, 0, TAMBURELVI_NAME + 1, TAMBURELVI_PAGE + 1)));
+    g = page(0x40, 0, 0, 4, 1);
     show("no output, by its length", tamburelvi_receiver_handle_universe_discovery_packet(r, 30002, &g, NULL, 0));
-    d = data(0x11, 2, 0, 0, 0);
+    d = data(0x30, 2, 0, 0, 0);
     d.terminated = true;
     show("A ends 2", take(30002, d));
     show_sources();
@@ -556,6 +584,11 @@ static void malformed(void) {
     tamburelvi_receiver_listen_universes(r, list, 1);
     show("data", a = take(50000, data(0x11, 1, 0, 0, 2)));
     memcpy(bytes, out, sizeof bytes);
+    reader = tamburelvi_records_of(a, out, sizeof out);
+    out[0] = 0;
+    printf("changed: %d", (int)tamburelvi_records_next(&reader, &record));
+    out[0] = bytes[0];
+    printf(", changed back: %d\n", (int)tamburelvi_records_next(&reader, &record));
     read_copy("as it is", bytes, 37, 1, 37);
     read_copy("cut in the values", bytes, 36, 1, 36);
     read_copy("cut in the head", bytes, 34, 1, 34);
