@@ -20,7 +20,7 @@
  * What a call sees, it answers by number (enum tamburelvi_number): parts that are too long (1), illegal universes (2), muting
  * what is not listened to (3), a limit of 0 (14), lent memory that is too short (15). A `tamburelvi_receiver_CALL`
  * also sees a null pointer (255), a receiver that was not started (254), and values, names, lists or output that overlap one
- * another or the receiver (253). None of these changes anything; read-outs say that there is no such entry.
+ * another or the receiver (253); it then changes nothing, and a read-out says that there is no such entry.
  *
  * What no call sees is the caller's to keep. The proofs hold for callers who do:
  *
@@ -35,7 +35,8 @@
  *  5. One call at a time. Nothing is locked: no two calls on the same receiver run at once, be it from threads or from an
  *     interrupt, and a read-out is such a call. Different receivers may.
  *  6. Numbers are in the machine's byte order (a packet has them most significant byte first), a CID's bytes in the packet's
- *     order. Readings are milliseconds of one clock.
+ *     order. Readings are milliseconds of one clock; of an entry that is newer than a reading the age is 0. Other fields of a
+ *     packet are taken as they come: a priority over 200, a page above the last page, a name that is not UTF-8.
  *
  * Said plainly: the library's functions do not find out a header that was never given by tamburelvi_new, an older header, or
  * memory that was changed in between; they may then read and write outside the memory lent. The mark of a `tamburelvi_receiver`
@@ -434,21 +435,34 @@ TAMBURELVI_AT(tamburelvi_page_rows, row, 0);
 
 /**
  * @brief A fresh receiver, which listens to 64214 alone.
- * @param heard The listened universes. Of the memory lent later only this has to be the same; the rest may hold anything.
+ * @param heard Its listened universes. Of the memory lent later only this has to be the same; the rest may hold anything.
  * @return The header to begin with.
  */
 tamburelvi_header tamburelvi_new(tamburelvi_listened_universes *heard);
 
 /**
  * @brief A step on a data packet: the poll, then the packet.
- * @param header,data_pairs,data_sources,sync_pairs,sync_sources,rows,heard,sources,names,pages The receiver (duty 4).
- * @param store,store_length The receiver's waiting values, TAMBURELVI_STORE bytes or more.
- * @param universes,universes_length The receiver's page universes, TAMBURELVI_UNIVERSES numbers or more.
+ * @param header The receiver's header.
+ * @param data_pairs Its data pairs.
+ * @param data_sources Its data sources.
+ * @param sync_pairs Its synchronisation pairs.
+ * @param sync_sources Its synchronisation sources.
+ * @param rows Its waiting data but for the values.
+ * @param store Its waiting values.
+ * @param store_length Their bytes, TAMBURELVI_STORE or more.
+ * @param heard Its listened universes.
+ * @param sources Its discovered sources.
+ * @param names Their names.
+ * @param pages Their pages.
+ * @param universes Its page universes.
+ * @param universes_length How many, TAMBURELVI_UNIVERSES or more.
  * @param settings The settings of this step.
  * @param reading Now, in milliseconds.
  * @param packet The packet but for its values.
- * @param values,values_length Its values, the start code first.
- * @param out,out_length Output, TAMBURELVI_OUTPUT bytes or more. A release is in its first bytes; the rest is unchanged.
+ * @param values Its values, the start code first.
+ * @param values_length How many, at most TAMBURELVI_VALUES.
+ * @param out Output. A release is in its first bytes; the rest is unchanged.
+ * @param out_length Its bytes, TAMBURELVI_OUTPUT or more.
  * @return 0 with nothing or a release, or 1, 2, 4 to 8, 10 to 12, 15, 16.
  */
 tamburelvi_reply tamburelvi_handle_data_packet(tamburelvi_header header, tamburelvi_pair_rows *data_pairs,
@@ -460,13 +474,25 @@ tamburelvi_reply tamburelvi_handle_data_packet(tamburelvi_header header, tambure
 
 /**
  * @brief A step on a synchronisation packet: the poll, then the packet.
- * @param header,data_pairs,data_sources,sync_pairs,sync_sources,rows,heard,sources,names,pages The receiver (duty 4).
- * @param store,store_length The receiver's waiting values, TAMBURELVI_STORE bytes or more.
- * @param universes,universes_length The receiver's page universes, TAMBURELVI_UNIVERSES numbers or more.
+ * @param header The receiver's header.
+ * @param data_pairs Its data pairs.
+ * @param data_sources Its data sources.
+ * @param sync_pairs Its synchronisation pairs.
+ * @param sync_sources Its synchronisation sources.
+ * @param rows Its waiting data but for the values.
+ * @param store Its waiting values.
+ * @param store_length Their bytes, TAMBURELVI_STORE or more.
+ * @param heard Its listened universes.
+ * @param sources Its discovered sources.
+ * @param names Their names.
+ * @param pages Their pages.
+ * @param universes Its page universes.
+ * @param universes_length How many, TAMBURELVI_UNIVERSES or more.
  * @param settings The settings of this step.
  * @param reading Now, in milliseconds.
  * @param packet The packet.
- * @param out,out_length Output, TAMBURELVI_OUTPUT bytes or more. A release is in its first bytes; the rest is unchanged.
+ * @param out Output. A release is in its first bytes; the rest is unchanged.
+ * @param out_length Its bytes, TAMBURELVI_OUTPUT or more.
  * @return 0 with nothing or a release, or 4, 6, 7, 10, 15, 16.
  */
 tamburelvi_reply tamburelvi_handle_sync_packet(tamburelvi_header header, tamburelvi_pair_rows *data_pairs,
@@ -478,15 +504,29 @@ tamburelvi_reply tamburelvi_handle_sync_packet(tamburelvi_header header, tambure
 
 /**
  * @brief A step on a discovery packet: the poll, then the packet.
- * @param header,data_pairs,data_sources,sync_pairs,sync_sources,rows,heard,sources,names,pages The receiver (duty 4).
- * @param store,store_length The receiver's waiting values, TAMBURELVI_STORE bytes or more.
- * @param universes,universes_length The receiver's page universes, TAMBURELVI_UNIVERSES numbers or more.
+ * @param header The receiver's header.
+ * @param data_pairs Its data pairs.
+ * @param data_sources Its data sources.
+ * @param sync_pairs Its synchronisation pairs.
+ * @param sync_sources Its synchronisation sources.
+ * @param rows Its waiting data but for the values.
+ * @param store Its waiting values.
+ * @param store_length Their bytes, TAMBURELVI_STORE or more.
+ * @param heard Its listened universes.
+ * @param sources Its discovered sources.
+ * @param names Their names.
+ * @param pages Their pages.
+ * @param universes Its page universes.
+ * @param universes_length How many, TAMBURELVI_UNIVERSES or more.
  * @param settings The settings of this step.
  * @param reading Now, in milliseconds.
  * @param packet The packet but for its name and its universes.
- * @param name,name_length Its source name.
- * @param list,list_length Its universes.
- * @param out,out_length Output, TAMBURELVI_OUTPUT bytes or more; its length is tested, and nothing is written.
+ * @param name Its source name.
+ * @param name_length Its bytes, at most TAMBURELVI_NAME.
+ * @param list Its universes.
+ * @param list_length How many, at most TAMBURELVI_PAGE.
+ * @param out Output. Nothing is written to it.
+ * @param out_length Its bytes, TAMBURELVI_OUTPUT or more.
  * @return 0 with nothing, or 1, 4, 9, 13, 15.
  */
 tamburelvi_reply tamburelvi_handle_universe_discovery_packet(tamburelvi_header header, tamburelvi_pair_rows *data_pairs,
@@ -498,8 +538,14 @@ tamburelvi_reply tamburelvi_handle_universe_discovery_packet(tamburelvi_header h
 
 /**
  * @brief The poll, with which every step begins: expired pairs and waiting data go.
- * @param header,data_pairs,data_sources,sync_pairs,sync_sources,rows The receiver (duty 4).
- * @param store,store_length The receiver's waiting values, TAMBURELVI_STORE bytes or more.
+ * @param header The receiver's header.
+ * @param data_pairs Its data pairs.
+ * @param data_sources Its data sources.
+ * @param sync_pairs Its synchronisation pairs.
+ * @param sync_sources Its synchronisation sources.
+ * @param rows Its waiting data but for the values.
+ * @param store Its waiting values.
+ * @param store_length Their bytes, TAMBURELVI_STORE or more.
  * @param settings The settings.
  * @param reading Now, in milliseconds.
  * @return 0, 4 or 15.
@@ -510,8 +556,12 @@ tamburelvi_reply tamburelvi_poll(tamburelvi_header header, tamburelvi_pair_rows 
 
 /**
  * @brief The discovery sweep: discovered sources of age 2,500 milliseconds or more go. No step does this.
- * @param header,sources,names,pages The receiver (duty 4).
- * @param universes,universes_length The receiver's page universes, TAMBURELVI_UNIVERSES numbers or more.
+ * @param header The receiver's header.
+ * @param sources Its discovered sources.
+ * @param names Their names.
+ * @param pages Their pages.
+ * @param universes Its page universes.
+ * @param universes_length How many, TAMBURELVI_UNIVERSES or more.
  * @param reading Now, in milliseconds.
  * @return 0 or 15.
  */
@@ -520,8 +570,10 @@ tamburelvi_reply tamburelvi_remove_expired_sources(tamburelvi_header header, tam
 
 /**
  * @brief Listens to all universes of the list, or to none.
- * @param header,heard The receiver (duty 4).
- * @param list,list_length The universes.
+ * @param header The receiver's header.
+ * @param heard Its listened universes.
+ * @param list The universes.
+ * @param list_length How many.
  * @return 0, 2 with the first illegal one, or 11.
  */
 tamburelvi_reply tamburelvi_listen_universes(
@@ -529,7 +581,8 @@ tamburelvi_reply tamburelvi_listen_universes(
 
 /**
  * @brief Listens to the universe no longer.
- * @param header,heard The receiver (duty 4).
+ * @param header The receiver's header.
+ * @param heard Its listened universes.
  * @param universe The universe.
  * @return 0, 2 or 3.
  */
@@ -537,7 +590,8 @@ tamburelvi_reply tamburelvi_mute_universe(tamburelvi_header header, tamburelvi_l
 
 /**
  * @brief Whether the universe is listened to.
- * @param header,heard The receiver (duty 4).
+ * @param header The receiver's header.
+ * @param heard Its listened universes.
  * @param universe The universe.
  * @return Whether it is.
  */
@@ -545,8 +599,10 @@ bool tamburelvi_is_listening(tamburelvi_header header, const tamburelvi_listened
 
 /**
  * @brief Forgets the universe's waiting data.
- * @param header,rows The receiver (duty 4).
- * @param store,store_length The receiver's waiting values, TAMBURELVI_STORE bytes or more.
+ * @param header The receiver's header.
+ * @param rows Its waiting data but for the values.
+ * @param store Its waiting values.
+ * @param store_length Their bytes, TAMBURELVI_STORE or more.
  * @param universe The universe.
  * @return 0 with one value, 1 if there was any and 0 if not; or 15.
  */
@@ -567,10 +623,7 @@ tamburelvi_header tamburelvi_clear_all_waiting_data(tamburelvi_header header);
  */
 tamburelvi_header tamburelvi_reset_sources(tamburelvi_header header);
 
-/**
- * @brief The fresh settings.
- * @return Preview and announcements off, merging by priority, no source limit.
- */
+
 tamburelvi_settings tamburelvi_fresh_settings(void);
 
 /**
@@ -630,7 +683,8 @@ tamburelvi_limited tamburelvi_set_source_limit(tamburelvi_settings settings, uin
 
 /**
  * @brief The pair at a place of the data table, by ascending CID, then universe.
- * @param header,data_pairs The receiver (duty 4).
+ * @param header The receiver's header.
+ * @param data_pairs Its data pairs.
  * @param at The place, below header.data_pairs.
  * @return The pair; past the last, zeros.
  */
@@ -638,7 +692,8 @@ tamburelvi_pair_read tamburelvi_data_pair(tamburelvi_header header, const tambur
 
 /**
  * @brief The pair at a place of the synchronisation table, by ascending CID, then address.
- * @param header,sync_pairs The receiver (duty 4).
+ * @param header The receiver's header.
+ * @param sync_pairs Its synchronisation pairs.
  * @param at The place, below header.sync_pairs.
  * @return The pair; past the last, zeros.
  */
@@ -646,7 +701,8 @@ tamburelvi_pair_read tamburelvi_sync_pair(tamburelvi_header header, const tambur
 
 /**
  * @brief The source at a place of the data table's list, ascending.
- * @param header,data_sources The receiver (duty 4).
+ * @param header The receiver's header.
+ * @param data_sources Its data sources.
  * @param at The place, below header.data_sources.
  * @return The CID; past the last, zeros.
  */
@@ -654,7 +710,8 @@ tamburelvi_cid_read tamburelvi_data_source(tamburelvi_header header, const tambu
 
 /**
  * @brief The source at a place of the synchronisation table's list, ascending.
- * @param header,sync_sources The receiver (duty 4).
+ * @param header The receiver's header.
+ * @param sync_sources Its synchronisation sources.
  * @param at The place, below header.sync_sources.
  * @return The CID; past the last, zeros.
  */
@@ -662,7 +719,8 @@ tamburelvi_cid_read tamburelvi_sync_source(tamburelvi_header header, const tambu
 
 /**
  * @brief The listened universe at a place, ascending.
- * @param header,heard The receiver (duty 4).
+ * @param header The receiver's header.
+ * @param heard Its listened universes.
  * @param at The place, below header.listened.
  * @return The universe; past the last, 0.
  */
@@ -670,7 +728,8 @@ uint16_t tamburelvi_listened(tamburelvi_header header, const tamburelvi_listened
 
 /**
  * @brief What waits at a place, by ascending universe, but for its values.
- * @param header,rows The receiver (duty 4).
+ * @param header The receiver's header.
+ * @param rows Its waiting data but for the values.
  * @param at The place, below header.waiting.
  * @return The data; past the last, zeros.
  */
@@ -678,7 +737,8 @@ tamburelvi_dmx_read tamburelvi_waiting(tamburelvi_header header, const tamburelv
 
 /**
  * @brief Where the values of what waits at a place lie in the waiting values.
- * @param header,rows The receiver (duty 4).
+ * @param header The receiver's header.
+ * @param rows Its waiting data but for the values.
  * @param at The place, below header.waiting.
  * @return Their part; past the last, none.
  */
@@ -686,7 +746,8 @@ tamburelvi_part_read tamburelvi_waiting_values(tamburelvi_header header, const t
 
 /**
  * @brief The discovered source at a place of its list.
- * @param header,sources The receiver (duty 4).
+ * @param header The receiver's header.
+ * @param sources Its discovered sources.
  * @param mark The list, by enum tamburelvi_mark.
  * @param at The place in the list.
  * @return The source; where there are not so many, place is header.sources and the rest zeros.
@@ -696,9 +757,11 @@ tamburelvi_source_read tamburelvi_source_at(
 
 /**
  * @brief The page at a place among the pages of a discovered source.
- * @param header,pages The receiver (duty 4).
+ * @param header The receiver's header.
+ * @param pages The pages of its discovered sources.
  * @param mark The source's list, by enum tamburelvi_mark.
- * @param hi,lo The source's CID.
+ * @param hi The first word of the source's CID.
+ * @param lo Its second word.
  * @param at The place among its pages.
  * @return The page; where there are not so many, place is header.pages and the rest zeros.
  */
@@ -761,7 +824,8 @@ static inline uint64_t tamburelvi_cid_lo(const uint8_t cid[TAMBURELVI_CID]) { re
 
 /**
  * @brief A CID's bytes.
- * @param hi,lo Its two words.
+ * @param hi The CID's first word.
+ * @param lo The CID's second word.
  * @param cid Gets its sixteen bytes, as they stand in a packet.
  */
 static inline void tamburelvi_cid_bytes(uint64_t hi, uint64_t lo, uint8_t cid[TAMBURELVI_CID]) {
@@ -816,7 +880,8 @@ enum tamburelvi_found {
 /**
  * @brief A reader of what a step has released.
  * @param answer The step's answer. One without a release has no records.
- * @param out,out_length The step's output, unchanged since.
+ * @param out The step's output, unchanged since.
+ * @param out_length Its bytes.
  * @return The reader, at the first record.
  */
 static inline tamburelvi_records tamburelvi_records_of(tamburelvi_answer answer, const uint8_t *out, size_t out_length) {
@@ -1024,7 +1089,8 @@ static inline tamburelvi_answer tamburelvi_receiver_new(tamburelvi_receiver *rec
  * @param receiver The receiver.
  * @param reading Now, in milliseconds.
  * @param packet The packet.
- * @param out,out_length Output, TAMBURELVI_OUTPUT bytes or more. A release is in its first bytes (tamburelvi_records_of).
+ * @param out Output. A release is in its first bytes (tamburelvi_records_of).
+ * @param out_length Its bytes, TAMBURELVI_OUTPUT or more.
  * @return 0 with nothing or a release, or 1, 2, 4 to 8, 10 to 12, 15, 16, 253 to 255.
  */
 static inline tamburelvi_answer tamburelvi_receiver_handle_data_packet(
@@ -1061,7 +1127,8 @@ static inline tamburelvi_answer tamburelvi_receiver_handle_data_packet(
  * @param receiver The receiver.
  * @param reading Now, in milliseconds.
  * @param packet The packet.
- * @param out,out_length Output, TAMBURELVI_OUTPUT bytes or more. A release is in its first bytes (tamburelvi_records_of).
+ * @param out Output. A release is in its first bytes (tamburelvi_records_of).
+ * @param out_length Its bytes, TAMBURELVI_OUTPUT or more.
  * @return 0 with nothing or a release, or 4, 6, 7, 10, 15, 16, 253 to 255.
  */
 static inline tamburelvi_answer tamburelvi_receiver_handle_sync_packet(
@@ -1089,7 +1156,8 @@ static inline tamburelvi_answer tamburelvi_receiver_handle_sync_packet(
  * @param receiver The receiver.
  * @param reading Now, in milliseconds.
  * @param packet The packet.
- * @param out,out_length Output, TAMBURELVI_OUTPUT bytes or more; its length is tested, and nothing is written.
+ * @param out Output. Nothing is written to it.
+ * @param out_length Its bytes, TAMBURELVI_OUTPUT or more.
  * @return 0 with nothing, or 1, 4, 9 (the name is the packet's), 13, 15, 253 to 255.
  */
 static inline tamburelvi_answer tamburelvi_receiver_handle_universe_discovery_packet(tamburelvi_receiver *receiver,
@@ -1156,7 +1224,8 @@ static inline tamburelvi_answer tamburelvi_receiver_remove_expired_sources(tambu
 /**
  * @brief Listens to all universes of the list, or to none.
  * @param receiver The receiver.
- * @param list,list_length The universes; null is allowed with a length of 0.
+ * @param list The universes; null is allowed with a length of 0.
+ * @param list_length How many.
  * @return 0, 2 with the first illegal one, 11, 253 to 255.
  */
 static inline tamburelvi_answer tamburelvi_receiver_listen_universes(
