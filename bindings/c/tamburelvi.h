@@ -32,17 +32,18 @@
  *  3. A `bool` is 0 or 1, in packets and settings too (a struct filled from raw bytes may break this).
  *  4. Header and memory. Each call gets the header that the last one gave back, and the memory as the last one left it;
  *     nothing else writes to either in between. The output is free between calls.
- *  5. One call at a time. Nothing is locked: no two calls on the same receiver run at once, be it from threads or from an
- *     interrupt, and a read-out is such a call. Different receivers may.
+ *  5. One call at a time. Nothing is locked: while a call that changes a receiver runs, no other call on it does, a read-out
+ *     neither, be it from a thread or from an interrupt. Different receivers do not mind one another; an output that two of
+ *     them share is one memory.
  *  6. Numbers are in the machine's byte order (a packet has them most significant byte first), a CID's bytes in the packet's
  *     order. Readings are milliseconds of one clock; of an entry that is newer than a reading the age is 0. Other fields of a
  *     packet are taken as they come: a priority over 200, a page above the last page, a name that is not UTF-8.
  *
- * Said plainly: the library's functions do not find out a header that was never given by tamburelvi_new, an older header, or
- * memory that was changed in between; they may then read and write outside the memory lent. The mark of a `tamburelvi_receiver`
- * tells a receiver that was started from one that was not, if the memory does not hold the mark by chance. It
- * does not find out that a started receiver was overwritten. Pointers that are wrong but not null, lengths that are longer than
- * their memory, and two calls at once are not found out by anything.
+ * Said plainly: a header that was not started (that tamburelvi_new did not give), an older header, or memory that was changed in
+ * between is not found out by the library's functions, which may then read and write outside the memory lent. A
+ * `tamburelvi_receiver` has a mark by which its calls tell one that was started from one that was not, unless its memory holds
+ * the mark by chance; that a started one was overwritten they do not find out. Wrong pointers that are not null, lengths that
+ * are longer than their memory, and two calls at once are found out by nothing.
  */
 #ifndef TAMBURELVI_H
 #define TAMBURELVI_H
@@ -623,7 +624,10 @@ tamburelvi_header tamburelvi_clear_all_waiting_data(tamburelvi_header header);
  */
 tamburelvi_header tamburelvi_reset_sources(tamburelvi_header header);
 
-
+/**
+ * @brief The fresh settings.
+ * @return Preview and announcements off, merging by priority, no source limit.
+ */
 tamburelvi_settings tamburelvi_fresh_settings(void);
 
 /**
