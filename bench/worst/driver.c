@@ -690,6 +690,16 @@ static int by_size(const void *a, const void *b) {
     return (x > y) - (x < y);
 }
 
+// Microseconds, with no more places than say something.
+static void print_time(uint64_t ns) {
+    double us = (double)ns / 1000;
+    unsigned long whole = (unsigned long)(us + 0.5);
+    if (us < 10) printf(" %.2f |", us);
+    else if (us < 100) printf(" %.1f |", us);
+    else if (whole < 1000) printf(" %lu |", whole);
+    else printf(" %lu,%03lu |", whole / 1000, whole % 1000);
+}
+
 static void measure(const row *c, int runs, bool cold) {
     c->set_up();
     kept = now;
@@ -705,7 +715,9 @@ static void measure(const row *c, int runs, bool cold) {
         check(c);
     }
     qsort(times, (size_t)runs, sizeof times[0], by_size);
-    printf(" %.2f | %.2f | %.2f |", (double)times[runs / 2] / 1000, (double)times[runs * 99 / 100] / 1000, (double)times[runs - 1] / 1000);
+    print_time(times[runs / 2]);
+    print_time(times[runs * 99 / 100]);
+    print_time(times[runs - 1]);
 }
 
 int main(int argc, char **argv) {
