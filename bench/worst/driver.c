@@ -690,14 +690,22 @@ static int by_size(const void *a, const void *b) {
     return (x > y) - (x < y);
 }
 
+static void print_whole(unsigned long n) {
+    if (n < 1000) printf("%lu", n);
+    else {
+        print_whole(n / 1000);
+        printf(",%03lu", n % 1000);
+    }
+}
+
 // Microseconds, with no more places than say something.
 static void print_time(uint64_t ns) {
     double us = (double)ns / 1000;
-    unsigned long whole = (unsigned long)(us + 0.5);
-    if (us < 10) printf(" %.2f |", us);
-    else if (us < 100) printf(" %.1f |", us);
-    else if (whole < 1000) printf(" %lu |", whole);
-    else printf(" %lu,%03lu |", whole / 1000, whole % 1000);
+    printf(" ");
+    if (us < 10) printf("%.2f", us);
+    else if (us < 100) printf("%.1f", us);
+    else print_whole((unsigned long)(us + 0.5));
+    printf(" |");
 }
 
 static void measure(const row *c, int runs, bool cold) {
@@ -715,6 +723,9 @@ static void measure(const row *c, int runs, bool cold) {
         check(c);
     }
     qsort(times, (size_t)runs, sizeof times[0], by_size);
+    printf(" ");
+    print_whole((unsigned long)runs);
+    printf(" |");
     print_time(times[runs / 2]);
     print_time(times[runs * 99 / 100]);
     print_time(times[runs - 1]);
@@ -735,9 +746,8 @@ int main(int argc, char **argv) {
         int warm = asked / c->share, cold = c->anew ? warm : warm / 4;
         if (warm < 10) warm = 10;
         if (cold < 10) cold = 10;
-        printf("| %s | %s | %d |", c->call, c->state, warm);
+        printf("| %s | %s |", c->call, c->state);
         measure(c, warm, false);
-        printf(" %d |", cold);
         measure(c, cold, true);
         printf("\n");
         fflush(stdout);
