@@ -46,6 +46,9 @@ pub struct Erased {
     pub arrays: Vec<String>,
 }
 
+/// The length that no slice exceeds, where usize has 64 bits.
+const LONGEST: &str = "9223372036854775807";
+
 const WRAPPED: &[&str] = &["u8", "u16", "u32", "u64"];
 
 /// Spaces at the ends of lines go: ghost text leaves them behind.
@@ -220,6 +223,32 @@ impl Eraser<'_> {
         self.refuse(i, format!("a path that begins with `{word}`"))
     }
 
+    /// A number; one that a usize of 32 bits cannot hold is the longest length, or is refused.
+    fn number(&mut self, i: usize) -> Result<(Option<String>, usize), Refusal> {
+        let text = self.at(i).to_string();
+        let of_usize = text.ends_with("usize")
+            || self.back(i, 5) == "const"
+                && self.back(i, 3) == ":"
+                && self.back(i, 2) == "usize"
+                && self.back(i, 1) == "=";
+        let digits = text.trim_end_matches("usize").replace('_', "");
+        let value = match digits.strip_prefix("0x") {
+            Some(hex) => u128::from_str_radix(hex, 16),
+            None => digits.parse(),
+        };
+        if !of_usize || value.is_ok_and(|v| v <= u32::MAX as u128) {
+            return Ok((Some(text), 0));
+        }
+        if text == LONGEST && self.at(i + 1) == ";" {
+            self.out.counts.longest += 1;
+            return Ok((Some("isize::MAX as usize".into()), 0));
+        }
+        self.refuse(
+            i,
+            format!("number `{text}`: usize has 32 bits on some targets"),
+        )
+    }
+
     /// `use PATH::NAME;`, and nothing else.
     fn import(&mut self, i: usize) -> Result<(), Refusal> {
         let (mut j, mut parts) = (i + 1, Vec::new());
@@ -261,6 +290,13 @@ impl Eraser<'_> {
             && (!self.is_word(i.wrapping_sub(1)) || matches!(next.as_str(), "{" | "*" | "<"))
         {
             return self.refuse(i, "`::` of a form that is not known");
+        }
+        if self
+            .code
+            .get(i)
+            .is_some_and(|t| self.all[*t].kind == Kind::Number)
+        {
+            return self.number(i);
         }
         if !self.is_word(i) {
             return same;

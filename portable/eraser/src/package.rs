@@ -308,6 +308,7 @@ pub fn package(sources: &Sources) -> Result<Package, Refusal> {
             counts.paths += c.paths;
             counts.wrapping += c.wrapping;
             counts.exports += c.exports;
+            counts.longest += c.longest;
             if krate != ROOT && !one.exports.is_empty() {
                 return Err(refusal(
                     &source.file,

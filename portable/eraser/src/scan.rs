@@ -109,6 +109,7 @@ pub struct Counts {
     pub paths: usize,
     pub wrapping: usize,
     pub exports: usize,
+    pub longest: usize,
 }
 
 struct Scanner<'a> {

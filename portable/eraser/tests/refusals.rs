@@ -141,6 +141,28 @@ fn numbers_that_are_not_known() {
 }
 
 #[test]
+fn numbers_that_a_usize_of_32_bits_cannot_hold() {
+    refused("\nconst A: usize = 4294967296;\n", 2, "32 bits");
+    refused("\nconst A: usize = 0x1_0000_0000;\n", 2, "32 bits");
+    refused(
+        "\nconst A: usize = 9_223_372_036_854_775_807;\n",
+        2,
+        "32 bits",
+    );
+    refused(
+        "\nconst A: usize = 9223372036854775807 / 2;\n",
+        2,
+        "32 bits",
+    );
+    refused(
+        "\nconst A: usize = 999999999999999999999999999999999999999999;\n",
+        2,
+        "32 bits",
+    );
+    refused("fn f() {\n    let a = 4294967296usize;\n}\n", 2, "32 bits");
+}
+
+#[test]
 fn attributes_and_exports_of_other_forms() {
     refused("#[inline]\nfn f() {}\n", 1, "attribute #[inline]");
     refused("#![no_std]\nfn f() {}\n", 1, "attribute");

@@ -127,6 +127,15 @@ fn casts_to_usize_are_listed_with_function_and_line() {
 }
 
 #[test]
+fn the_longest_length_is_the_targets() {
+    let e = erased("const LONGEST: usize = 9223372036854775807;\nconst A: usize = 4294967295;\nconst B: u64 = 9223372036854775807;\n");
+    let plain = "const LONGEST: usize = isize::MAX as usize;\nconst A: usize = 4294967295;\nconst B: u64 = 9223372036854775807;\n";
+    assert!(e.text.ends_with(plain), "{}", e.text);
+    assert_eq!(e.counts.longest, 1);
+    assert_eq!(isize::MAX as usize, 9_223_372_036_854_775_807);
+}
+
+#[test]
 fn the_rest_is_left_as_it_is() {
     let text = "fn f<'a>(a: &'a [u8], n: u16) -> &'a [u8] {\n    match n {\n        0 => &a[..0],\n        1..=0xFF_u16 => a, // said\n        _ => {\n            if !(n == 2) {\n                return a;\n            }\n            a\n        }\n    }\n}\n";
     assert_eq!(body(text), text);
