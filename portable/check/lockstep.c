@@ -1,0 +1,203 @@
+/* lockstep CALLS [SEED]: the proved library and the portable one (its symbols renamed to portable_..) side by side on random calls. After every call the
+ * answers, the headers, all lent memory and the output are compared. Status 1 at the first difference, and where a number of 0 to 15 was not
+ * reached, 16 was given or a function was not called. */
+#include "tamburelvi.h"
+#include <stdio.h>
+#include <stdlib.h>
+#include <string.h>
+
+/* Every function, with a count of its calls. */
+#define EACH(F) \
+    F(new) F(handle_data_packet) F(handle_sync_packet) F(handle_universe_discovery_packet) F(poll) F(remove_expired_sources) F(listen_universes) \
+    F(mute_universe) F(is_listening) F(clear_waiting_data) F(clear_all_waiting_data) F(reset_sources) F(fresh_settings) F(set_process_preview_data) \
+    F(set_announce_source_discovery) F(set_announce_stream_termination) F(set_announce_timeout) F(set_merge) F(clear_source_limit) F(set_source_limit) \
+    F(data_pair) F(sync_pair) F(data_source) F(sync_source) F(listened) F(waiting) F(waiting_values) F(source_at) F(page_at)
+#define DECLARE(f) __typeof__(tamburelvi_##f) portable_##f;
+EACH(DECLARE)
+#define NAME(f) f##_called,
+enum { EACH(NAME) functions };
+#define TEXT(f) #f,
+static const char *const names[] = {EACH(TEXT)};
+static unsigned long called[functions], calls, reached[256], records;
+
+static tamburelvi a, b;
+static uint8_t out_a[TAMBURELVI_OUTPUT + 64], out_b[TAMBURELVI_OUTPUT + 64];
+static uint64_t state = 88172645463325252u;
+
+static uint64_t below(uint64_t n) {
+    state ^= state << 13, state ^= state >> 7, state ^= state << 17;
+    return (state >> 11) % n;
+}
+static bool one_in(uint64_t n) { return below(n) == 0; }
+
+static void differ(const char *what) {
+    printf("DIFFERENT: %s, call %lu\n", what, calls);
+    exit(1);
+}
+
+/* Field by field: what stands between the fields is nobody's. */
+#define SAME(x, y, f) if ((x).f != (y).f) differ(#f)
+static void same_header(const tamburelvi_header *p, const tamburelvi_header *q) {
+    SAME(*p, *q, data_pairs); SAME(*p, *q, data_sources); SAME(*p, *q, data_oldest); SAME(*p, *q, sync_pairs); SAME(*p, *q, sync_sources);
+    SAME(*p, *q, sync_oldest); SAME(*p, *q, waiting); SAME(*p, *q, listened); SAME(*p, *q, sources); SAME(*p, *q, pages); SAME(*p, *q, page_universes);
+    SAME(*p, *q, data_tidy); SAME(*p, *q, sync_tidy);
+}
+static void same_memory(void) {
+    same_header(&a.header, &b.header);
+    size_t from = offsetof(tamburelvi, data_pairs);
+    if (memcmp((char *)&a + from, (char *)&b + from, sizeof a - from)) differ("lent memory");
+    if (memcmp(out_a, out_b, sizeof out_a)) differ("output");
+}
+static void same_settings(tamburelvi_settings p, tamburelvi_settings q) {
+    SAME(p, q, process_preview_data); SAME(p, q, announce_source_discovery); SAME(p, q, announce_stream_termination); SAME(p, q, announce_timeout);
+    SAME(p, q, merge); SAME(p, q, source_limit);
+}
+static void same_reply(tamburelvi_reply p, tamburelvi_reply q) {
+    a.header = p.header, b.header = q.header;
+    SAME(p.answer, q.answer, first); SAME(p.answer, q.answer, second); SAME(p.answer, q.answer, hi); SAME(p.answer, q.answer, lo);
+    SAME(p.answer, q.answer, number); SAME(p.answer, q.answer, values); SAME(p.answer, q.answer, difference);
+    reached[p.answer.number]++;
+    if (p.answer.values == TAMBURELVI_RELEASE) records += p.answer.first;
+}
+
+/* The same call on both. */
+#define COUNT(f) called[f##_called]++, calls++
+#define REPLY(f, ...) do { COUNT(f); tamburelvi *t = &a; uint8_t *out = out_a; tamburelvi_reply p_ = tamburelvi_##f(t->header, __VA_ARGS__); \
+        t = &b, out = out_b; tamburelvi_reply q_ = portable_##f(t->header, __VA_ARGS__); (void)out; same_reply(p_, q_); } while (0)
+#define HEADER(f) do { COUNT(f); a.header = tamburelvi_##f(a.header), b.header = portable_##f(b.header); } while (0)
+#define SETTINGS(f, ...) do { COUNT(f); tamburelvi_settings p_ = tamburelvi_##f(__VA_ARGS__), q_ = portable_##f(__VA_ARGS__); same_settings(p_, q_); s = p_; } while (0)
+#define READ(f, type, ...) COUNT(f); tamburelvi *t = &a; type p = tamburelvi_##f(t->header, __VA_ARGS__); t = &b; type q = portable_##f(t->header, __VA_ARGS__)
+#define TABLES &t->data_pairs, &t->data_sources, &t->sync_pairs, &t->sync_sources, &t->rows, t->store, store
+#define CONST(type, size, of) (const type(*) size)&t->of
+
+static tamburelvi_settings s;
+
+static void settings(void) {
+    bool on = below(2);
+    switch (below(8)) {
+    case 0: SETTINGS(set_process_preview_data, s, on); break;
+    case 1: SETTINGS(set_announce_source_discovery, s, on); break;
+    case 2: SETTINGS(set_announce_stream_termination, s, on); break;
+    case 3: on = one_in(4); SETTINGS(set_announce_timeout, s, on); break;
+    case 4: { uint8_t m = on ? (uint8_t)below(256) : 0; SETTINGS(set_merge, s, m); break; }
+    case 5: SETTINGS(clear_source_limit, s); break;
+    case 6: if (one_in(8)) SETTINGS(fresh_settings, ); break;
+    case 7: {
+        uint16_t limit = (uint16_t)(one_in(4) ? 0 : one_in(2) ? below(40) : below(65536));
+        COUNT(set_source_limit);
+        tamburelvi_limited p = tamburelvi_set_source_limit(s, limit), q = portable_set_source_limit(s, limit);
+        same_settings(p.settings, q.settings);
+        SAME(p, q, number);
+        reached[p.number]++, s = p.settings;
+    }
+    }
+}
+
+static void reads(void) {
+    size_t at = one_in(2) ? below(70) : below(1100);
+    uint64_t mark = below(3);
+    { READ(data_pair, tamburelvi_pair_read, CONST(uint64_t, [1024][4], data_pairs), at); SAME(p, q, hi); SAME(p, q, lo); SAME(p, q, reading); SAME(p, q, universe); SAME(p, q, sequence); }
+    { READ(sync_pair, tamburelvi_pair_read, CONST(uint64_t, [1024][4], sync_pairs), at); SAME(p, q, hi); SAME(p, q, lo); SAME(p, q, reading); SAME(p, q, universe); SAME(p, q, sequence); }
+    { READ(data_source, tamburelvi_cid_read, CONST(uint64_t, [1024][2], data_sources), at); SAME(p, q, hi); SAME(p, q, lo); }
+    { READ(sync_source, tamburelvi_cid_read, CONST(uint64_t, [1024][2], sync_sources), at); SAME(p, q, hi); SAME(p, q, lo); }
+    { READ(listened, uint16_t, CONST(uint16_t, [1024], heard), at); if (p != q) differ("listened"); }
+    { READ(waiting, tamburelvi_dmx_read, CONST(uint64_t, [64][9], rows), at); SAME(p, q, hi); SAME(p, q, lo); SAME(p, q, reading); SAME(p, q, universe); SAME(p, q, address); SAME(p, q, priority); SAME(p, q, preview); SAME(p, q, has_cid); }
+    { READ(waiting_values, tamburelvi_part_read, CONST(uint64_t, [64][9], rows), at); SAME(p, q, start); SAME(p, q, count); }
+    READ(source_at, tamburelvi_source_read, CONST(uint64_t, [64][6], sources), mark, at);
+    SAME(p, q, hi); SAME(p, q, lo); SAME(p, q, reading); SAME(p, q, last_page); SAME(p, q, name_length); SAME(p, q, place);
+    uint64_t hi = p.hi, lo = p.lo;
+    at = below(4);
+    { READ(page_at, tamburelvi_page_read, CONST(uint64_t, [64][5], pages), mark, hi, lo, at); SAME(p, q, number); SAME(p, q, count); SAME(p, q, start); SAME(p, q, place); }
+}
+
+int main(int argc, char **argv) {
+    unsigned long wanted = argc > 1 ? strtoul(argv[1], 0, 10) : 1000000;
+    if (argc > 2) state ^= strtoull(argv[2], 0, 10) * 0x9E3779B97F4A7C15u;
+    static uint8_t values[600], name[80], sequences[2048][64];
+    static uint16_t list[1200];
+    while (calls < wanted) {
+        /* A receiver in memory that holds anything, and what it will get: few or many sources and universes, slow or fast time. */
+        for (size_t i = 0; i < sizeof a; i++) ((uint8_t *)&a)[i] = (uint8_t)below(256);
+        memcpy(&b, &a, sizeof a);
+        COUNT(new);
+        a.header = tamburelvi_new(&a.heard), b.header = portable_new(&b.heard);
+        same_memory();
+        SETTINGS(fresh_settings, );
+        for (int i = 0; i < 12; i++) settings();
+        uint64_t sources = (uint64_t[]){2, 5, 60, 1500}[below(4)], universes = (uint64_t[]){3, 10, 100, 1500}[below(4)], slow = one_in(3) ? 20 : 1000;
+        uint64_t now = one_in(4) ? UINT64_MAX - below(100000) : below(10000), addresses = one_in(4) ? 70 : 4;
+        memset(sequences, 0, sizeof sequences);
+        size_t first = universes < 1023 ? universes : 1023;
+        for (size_t i = 0; i < first; i++) list[i] = (uint16_t)(i + 1);
+        REPLY(listen_universes, &t->heard, list, first);
+        for (uint64_t n = 300 + below(6000); n && calls < wanted; n--) {
+            if (one_in(slow)) now += one_in(3) ? below(40) : 2400 + below(200);
+            if (one_in(10)) now += below(3);
+            if (one_in(50)) now -= below(5);
+            uint64_t c = below(sources), hi = c / 7 * 0x0123456789ABCDEFu, lo = c;
+            uint16_t u = (uint16_t)(one_in(300) ? below(65536) : 1 + below(universes)), address = (uint16_t)(1 + below(one_in(30) ? universes : addresses));
+            size_t store = one_in(500) ? below(TAMBURELVI_STORE) : TAMBURELVI_STORE, pool = one_in(500) ? below(TAMBURELVI_UNIVERSES) : TAMBURELVI_UNIVERSES;
+            size_t room = one_in(500) ? below(TAMBURELVI_OUTPUT) : TAMBURELVI_OUTPUT + below(2) * 64;
+            uint8_t sequence = one_in(12) ? (uint8_t)below(256) : ++sequences[c][u & 63];
+            switch (below(16)) {
+            default: {
+                size_t length = one_in(4) ? below(516) : below(8);
+                for (size_t i = 0; i < length; i++) values[i] = (uint8_t)below(256);
+                if (!one_in(8)) values[0] = 0;
+                tamburelvi_data d = {.hi = hi, .lo = lo, .universe = u, .address = one_in(2) ? 0 : one_in(20) ? (uint16_t)below(65536) : address,
+                    .priority = (uint8_t)(100 + below(3)), .sequence = sequence, .preview = one_in(20), .terminated = one_in(200), .force_synchronization = one_in(6)};
+                REPLY(handle_data_packet, TABLES, &t->heard, CONST(uint64_t, [64][6], sources), CONST(uint8_t, [64][63], names), &t->pages, t->universes, pool, s, now, d, values, length, out, room);
+                break;
+            }
+            case 0: case 1: {
+                tamburelvi_sync y = {.hi = hi, .lo = lo, .address = one_in(300) ? 0 : address, .sequence = sequence};
+                REPLY(handle_sync_packet, TABLES, CONST(uint16_t, [1024], heard), CONST(uint64_t, [64][6], sources), CONST(uint8_t, [64][63], names), CONST(uint64_t, [64][5], pages), t->universes, pool, s, now, y, out, room);
+                break;
+            }
+            case 2: case 3: {
+                size_t length = below(66), count = one_in(3) ? below(515) : below(6);
+                uint8_t last = (uint8_t)below(3);
+                for (size_t i = 0; i < length; i++) name[i] = (uint8_t)below(256);
+                for (size_t i = 0; i < count; i++) list[i] = (uint16_t)(1 + below(universes));
+                tamburelvi_page g = {.hi = hi, .lo = lo, .page = (uint8_t)below(last + 1u + one_in(9)), .last_page = last};
+                REPLY(handle_universe_discovery_packet, TABLES, CONST(uint16_t, [1024], heard), &t->sources, &t->names, &t->pages, t->universes, pool, s, now, g, name, length, list, count, out, room);
+                break;
+            }
+            case 4:
+                switch (below(10)) {
+                case 0: REPLY(poll, TABLES, s, now); break;
+                case 1: REPLY(remove_expired_sources, &t->sources, &t->names, &t->pages, t->universes, pool, now); break;
+                case 2: {
+                    size_t count = below(20);
+                    for (size_t i = 0; i < count; i++) list[i] = (uint16_t)(one_in(9) ? below(65536) : 1 + below(2000));
+                    REPLY(listen_universes, &t->heard, list, count);
+                    break;
+                }
+                case 3: if (one_in(4)) REPLY(mute_universe, &t->heard, u); break;
+                case 4: REPLY(clear_waiting_data, &t->rows, t->store, store, u); break;
+                case 5: if (one_in(30)) HEADER(clear_all_waiting_data); break;
+                case 6: if (one_in(30)) HEADER(reset_sources); break;
+                case 7: {
+                    READ(is_listening, bool, CONST(uint16_t, [1024], heard), u);
+                    if (p != q) differ("is_listening");
+                    break;
+                }
+                case 8: reads(); break;
+                case 9: if (one_in(4)) settings(); break;
+                }
+            }
+            same_memory();
+        }
+    }
+    int status = 0;
+    printf("%lu calls the same, with all memory after each; %lu records released\nby number:", calls, records);
+    for (int i = 0; i < 17; i++) printf(" %d: %lu", i, reached[i]);
+    printf("\nby function:");
+    for (int i = 0; i < functions; i++) printf(" %s %lu", names[i], called[i]);
+    putchar('\n');
+    for (int i = 0; i < 256; i++)
+        if ((reached[i] == 0) == (i < 16)) printf("FAILED: number %d: %lu times\n", i, reached[i]), status = 1;
+    for (int i = 0; i < functions; i++)
+        if (!called[i]) printf("FAILED: %s was not called\n", names[i]), status = 1;
+    return status;
+}
