@@ -15,11 +15,11 @@ part() { # NAME WHAT-IS-MISSING FUNCTION [WORDS]: the last line that it prints i
   fi
   bash "$script" --part "$@" >"$logs/$name.log" 2>&1 </dev/null || status=$?
   if [ "$status" -eq 0 ]; then
-    printf '%-10s %3d s  %s\n' "$name" $((SECONDS - began)) "$(tail -n 1 "$logs/$name.log")"
+    printf '%-16s %3d s  %s\n' "$name" $((SECONDS - began)) "$(tail -n 1 "$logs/$name.log")"
     passed=$((passed + 1))
     return 0
   fi
-  printf '%-10s %3d s  FAILED, status %d; the last lines of %s:\n' "$name" $((SECONDS - began)) "$status" "$logs/$name.log"
+  printf '%-16s %3d s  FAILED, status %d; the last lines of %s:\n' "$name" $((SECONDS - began)) "$status" "$logs/$name.log"
   tail -n 30 "$logs/$name.log"
   failed="$failed $name"
   return 1

@@ -265,17 +265,35 @@ long replay(void) {
     return lines;
 }
 
+/* The lines of the script, and the deepest stack below this function that they have used, this driver's own included. */
+#define ROOM 65536
+#define NEAR 512
+long measured_replay(int *stack) {
+    uint8_t here;
+    volatile uint8_t *from = (volatile uint8_t *)((uintptr_t)&here - NEAR - ROOM);
+    for (int i = 0; i < ROOM; i++) from[i] = 0xA5;
+    long lines = replay();
+    int k = 0;
+    while (k < ROOM && from[k] == 0xA5) k++;
+    *stack = NEAR + ROOM - k;
+    return lines;
+}
+
 #ifndef NO_MAIN
-#ifdef HOOK
 #include "tamburelvi_panic.h"
 #include <stdlib.h>
 void tamburelvi_panicked(void) {
     fputs("panicked\n", stderr);
     exit(3);
 }
-#endif
-int main(void) {
-    if (replay() == 0) fputs("no lines\n", stderr);
-    return fflush(stdout) || ferror(stdout);
+
+/* replay FILE: the number of lines and the stack go to FILE. */
+int main(int argc, char **argv) {
+    int stack;
+    long lines = measured_replay(&stack);
+    if (fflush(stdout) || ferror(stdout)) return 1;
+    if (argc < 2) return 0;
+    FILE *said = fopen(argv[1], "a");
+    return !said || fprintf(said, "%ld %d\n", lines, stack) < 0 || fclose(said);
 }
 #endif
