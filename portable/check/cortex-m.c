@@ -1,5 +1,6 @@
 /* The start of a check on a Cortex-M under an emulator: the vectors, the floating-point unit where there is one, then newlib's start and main.
- * Files are the emulator's by semihosting: `script` in, `answers` and `stack` out. -DEDGES runs edges in place of the script. */
+ * Files are the emulator's by semihosting: `script` in, `answers` and `stack` out. -DEDGES runs edges in place of the script; with
+ * -DSTART_ONLY the program has a main of its own. */
 #include <stdint.h>
 #include <stdio.h>
 #include <stdlib.h>
@@ -30,7 +31,8 @@ extern uint8_t top_of_stack[];
 __attribute__((section(".vectors"), used)) static const uintptr_t vectors[16] = {(uintptr_t)top_of_stack, (uintptr_t)reset, (uintptr_t)fault, (uintptr_t)fault,
     (uintptr_t)fault, (uintptr_t)fault, (uintptr_t)fault};
 
-#ifdef EDGES
+#if defined(START_ONLY)
+#elif defined(EDGES)
 int edges(void);
 int main(void) { return edges(); }
 #else
