@@ -1,6 +1,8 @@
 /* lockstep CALLS [SEED]: the proved library and the portable one (its symbols renamed to portable_..) side by side on random calls. After every call the
  * answers, the headers, all lent memory and the output are compared. Status 1 at the first difference, and where a number of 0 to 15 was not
- * reached, 16 was given or a function was not called. */
+ * reached, 16 was given or a function was not called.
+ * With -DTRACE one library alone gets the calls, and a sum of all answers and headers, and of all lent memory and output after every 64th call, is
+ * printed: for two machines that cannot run one program. */
 #include "tamburelvi.h"
 #include <stdio.h>
 #include <stdlib.h>
@@ -12,8 +14,13 @@
     F(mute_universe) F(is_listening) F(clear_waiting_data) F(clear_all_waiting_data) F(reset_sources) F(fresh_settings) F(set_process_preview_data) \
     F(set_announce_source_discovery) F(set_announce_stream_termination) F(set_announce_timeout) F(set_merge) F(clear_source_limit) F(set_source_limit) \
     F(data_pair) F(sync_pair) F(data_source) F(sync_source) F(listened) F(waiting) F(waiting_values) F(source_at) F(page_at)
+#ifdef TRACE
+#define OTHER(f) tamburelvi_##f
+#else
+#define OTHER(f) portable_##f
 #define DECLARE(f) __typeof__(tamburelvi_##f) portable_##f;
 EACH(DECLARE)
+#endif
 #define NAME(f) f##_called,
 enum { EACH(NAME) functions };
 #define TEXT(f) #f,
@@ -22,6 +29,8 @@ static unsigned long called[functions], calls, reached[256], records;
 
 static tamburelvi a, b;
 static uint8_t out_a[TAMBURELVI_OUTPUT + 64], out_b[TAMBURELVI_OUTPUT + 64];
+#define LENT (sizeof(tamburelvi) - offsetof(tamburelvi, data_pairs))
+static char *const lent_a = (char *)&a.data_pairs, *const lent_b = (char *)&b.data_pairs;
 static uint64_t state = 88172645463325252u;
 
 static uint64_t below(uint64_t n) {
@@ -35,8 +44,20 @@ static void differ(const char *what) {
     exit(1);
 }
 
+static uint64_t sum = 14695981039346656037u;
+static void add(uint64_t n) { sum = (sum ^ n) * 1099511628211u, sum ^= sum >> 29; }
+#ifdef TRACE
+static void add_all(const void *from, size_t n) {
+    for (size_t i = 0; i + 8 <= n; i += 8) {
+        uint64_t word;
+        memcpy(&word, (const char *)from + i, 8);
+        add(word);
+    }
+}
+#endif
+
 /* Field by field: what stands between the fields is nobody's. */
-#define SAME(x, y, f) if ((x).f != (y).f) differ(#f)
+#define SAME(x, y, f) do { if ((x).f != (y).f) differ(#f); add((uint64_t)(x).f); } while (0)
 static void same_header(const tamburelvi_header *p, const tamburelvi_header *q) {
     SAME(*p, *q, data_pairs); SAME(*p, *q, data_sources); SAME(*p, *q, data_oldest); SAME(*p, *q, sync_pairs); SAME(*p, *q, sync_sources);
     SAME(*p, *q, sync_oldest); SAME(*p, *q, waiting); SAME(*p, *q, listened); SAME(*p, *q, sources); SAME(*p, *q, pages); SAME(*p, *q, page_universes);
@@ -44,8 +65,11 @@ static void same_header(const tamburelvi_header *p, const tamburelvi_header *q) 
 }
 static void same_memory(void) {
     same_header(&a.header, &b.header);
-    size_t from = offsetof(tamburelvi, data_pairs);
-    if (memcmp((char *)&a + from, (char *)&b + from, sizeof a - from)) differ("lent memory");
+#ifdef TRACE
+    if (calls % 64) return;
+    add_all(lent_a, LENT), add_all(out_a, sizeof out_a);
+#endif
+    if (memcmp(lent_a, lent_b, LENT)) differ("lent memory");
     if (memcmp(out_a, out_b, sizeof out_a)) differ("output");
 }
 static void same_settings(tamburelvi_settings p, tamburelvi_settings q) {
@@ -63,10 +87,10 @@ static void same_reply(tamburelvi_reply p, tamburelvi_reply q) {
 /* The same call on both. */
 #define COUNT(f) called[f##_called]++, calls++
 #define REPLY(f, ...) do { COUNT(f); tamburelvi *t = &a; uint8_t *out = out_a; tamburelvi_reply p_ = tamburelvi_##f(t->header, __VA_ARGS__); \
-        t = &b, out = out_b; tamburelvi_reply q_ = portable_##f(t->header, __VA_ARGS__); (void)out; same_reply(p_, q_); } while (0)
-#define HEADER(f) do { COUNT(f); a.header = tamburelvi_##f(a.header), b.header = portable_##f(b.header); } while (0)
-#define SETTINGS(f, ...) do { COUNT(f); tamburelvi_settings p_ = tamburelvi_##f(__VA_ARGS__), q_ = portable_##f(__VA_ARGS__); same_settings(p_, q_); s = p_; } while (0)
-#define READ(f, type, ...) COUNT(f); tamburelvi *t = &a; type p = tamburelvi_##f(t->header, __VA_ARGS__); t = &b; type q = portable_##f(t->header, __VA_ARGS__)
+        t = &b, out = out_b; tamburelvi_reply q_ = OTHER(f)(t->header, __VA_ARGS__); (void)out; same_reply(p_, q_); } while (0)
+#define HEADER(f) do { COUNT(f); a.header = tamburelvi_##f(a.header), b.header = OTHER(f)(b.header); } while (0)
+#define SETTINGS(f, ...) do { COUNT(f); tamburelvi_settings p_ = tamburelvi_##f(__VA_ARGS__), q_ = OTHER(f)(__VA_ARGS__); same_settings(p_, q_); s = p_; } while (0)
+#define READ(f, type, ...) COUNT(f); tamburelvi *t = &a; type p = tamburelvi_##f(t->header, __VA_ARGS__); t = &b; type q = OTHER(f)(t->header, __VA_ARGS__)
 #define TABLES &t->data_pairs, &t->data_sources, &t->sync_pairs, &t->sync_sources, &t->rows, t->store, store
 #define CONST(type, size, of) (const type(*) size)&t->of
 
@@ -85,7 +109,7 @@ static void settings(void) {
     case 7: {
         uint16_t limit = (uint16_t)(one_in(4) ? 0 : one_in(2) ? below(40) : below(65536));
         COUNT(set_source_limit);
-        tamburelvi_limited p = tamburelvi_set_source_limit(s, limit), q = portable_set_source_limit(s, limit);
+        tamburelvi_limited p = tamburelvi_set_source_limit(s, limit), q = OTHER(set_source_limit)(s, limit);
         same_settings(p.settings, q.settings);
         SAME(p, q, number);
         reached[p.number]++, s = p.settings;
@@ -100,7 +124,7 @@ static void reads(void) {
     { READ(sync_pair, tamburelvi_pair_read, CONST(uint64_t, [1024][4], sync_pairs), at); SAME(p, q, hi); SAME(p, q, lo); SAME(p, q, reading); SAME(p, q, universe); SAME(p, q, sequence); }
     { READ(data_source, tamburelvi_cid_read, CONST(uint64_t, [1024][2], data_sources), at); SAME(p, q, hi); SAME(p, q, lo); }
     { READ(sync_source, tamburelvi_cid_read, CONST(uint64_t, [1024][2], sync_sources), at); SAME(p, q, hi); SAME(p, q, lo); }
-    { READ(listened, uint16_t, CONST(uint16_t, [1024], heard), at); if (p != q) differ("listened"); }
+    { READ(listened, uint16_t, CONST(uint16_t, [1024], heard), at); if (p != q) differ("listened"); add(p); }
     { READ(waiting, tamburelvi_dmx_read, CONST(uint64_t, [64][9], rows), at); SAME(p, q, hi); SAME(p, q, lo); SAME(p, q, reading); SAME(p, q, universe); SAME(p, q, address); SAME(p, q, priority); SAME(p, q, preview); SAME(p, q, has_cid); }
     { READ(waiting_values, tamburelvi_part_read, CONST(uint64_t, [64][9], rows), at); SAME(p, q, start); SAME(p, q, count); }
     READ(source_at, tamburelvi_source_read, CONST(uint64_t, [64][6], sources), mark, at);
@@ -117,10 +141,10 @@ int main(int argc, char **argv) {
     static uint16_t list[1200];
     while (calls < wanted) {
         /* A receiver in memory that holds anything, and what it will get: few or many sources and universes, slow or fast time. */
-        for (size_t i = 0; i < sizeof a; i++) ((uint8_t *)&a)[i] = (uint8_t)below(256);
-        memcpy(&b, &a, sizeof a);
+        for (size_t i = 0; i < LENT; i++) lent_a[i] = (char)below(256);
+        memcpy(lent_b, lent_a, LENT);
         COUNT(new);
-        a.header = tamburelvi_new(&a.heard), b.header = portable_new(&b.heard);
+        a.header = tamburelvi_new(&a.heard), b.header = OTHER(new)(&b.heard);
         same_memory();
         SETTINGS(fresh_settings, );
         for (int i = 0; i < 12; i++) settings();
@@ -144,13 +168,17 @@ int main(int argc, char **argv) {
                 size_t length = one_in(4) ? below(516) : below(8);
                 for (size_t i = 0; i < length; i++) values[i] = (uint8_t)below(256);
                 if (!one_in(8)) values[0] = 0;
-                tamburelvi_data d = {.hi = hi, .lo = lo, .universe = u, .address = one_in(2) ? 0 : one_in(20) ? (uint16_t)below(65536) : address,
-                    .priority = (uint8_t)(100 + below(3)), .sequence = sequence, .preview = one_in(20), .terminated = one_in(200), .force_synchronization = one_in(6)};
+                if (one_in(2)) address = one_in(20) ? (uint16_t)below(65536) : 0;
+                uint8_t priority = (uint8_t)(100 + below(3));
+                bool preview = one_in(20), terminated = one_in(200), forced = one_in(6);
+                tamburelvi_data d = {.hi = hi, .lo = lo, .universe = u, .address = address, .priority = priority, .sequence = sequence, .preview = preview,
+                    .terminated = terminated, .force_synchronization = forced};
                 REPLY(handle_data_packet, TABLES, &t->heard, CONST(uint64_t, [64][6], sources), CONST(uint8_t, [64][63], names), &t->pages, t->universes, pool, s, now, d, values, length, out, room);
                 break;
             }
             case 0: case 1: {
-                tamburelvi_sync y = {.hi = hi, .lo = lo, .address = one_in(300) ? 0 : address, .sequence = sequence};
+                if (one_in(300)) address = 0;
+                tamburelvi_sync y = {.hi = hi, .lo = lo, .address = address, .sequence = sequence};
                 REPLY(handle_sync_packet, TABLES, CONST(uint16_t, [1024], heard), CONST(uint64_t, [64][6], sources), CONST(uint8_t, [64][63], names), CONST(uint64_t, [64][5], pages), t->universes, pool, s, now, y, out, room);
                 break;
             }
@@ -159,7 +187,8 @@ int main(int argc, char **argv) {
                 uint8_t last = (uint8_t)below(3);
                 for (size_t i = 0; i < length; i++) name[i] = (uint8_t)below(256);
                 for (size_t i = 0; i < count; i++) list[i] = (uint16_t)(1 + below(universes));
-                tamburelvi_page g = {.hi = hi, .lo = lo, .page = (uint8_t)below(last + 1u + one_in(9)), .last_page = last};
+                uint64_t pages = last + 1u + one_in(9);
+                tamburelvi_page g = {.hi = hi, .lo = lo, .page = (uint8_t)below(pages), .last_page = last};
                 REPLY(handle_universe_discovery_packet, TABLES, CONST(uint16_t, [1024], heard), &t->sources, &t->names, &t->pages, t->universes, pool, s, now, g, name, length, list, count, out, room);
                 break;
             }
@@ -180,6 +209,7 @@ int main(int argc, char **argv) {
                 case 7: {
                     READ(is_listening, bool, CONST(uint16_t, [1024], heard), u);
                     if (p != q) differ("is_listening");
+                    add(p);
                     break;
                 }
                 case 8: reads(); break;
@@ -195,6 +225,9 @@ int main(int argc, char **argv) {
     printf("\nby function:");
     for (int i = 0; i < functions; i++) printf(" %s %lu", names[i], called[i]);
     putchar('\n');
+#ifdef TRACE
+    printf("sum: %08lx%08lx\n", (unsigned long)(sum >> 32), (unsigned long)(sum & 0xFFFFFFFFu));
+#endif
     for (int i = 0; i < 256; i++)
         if ((reached[i] == 0) == (i < 16)) printf("FAILED: number %d: %lu times\n", i, reached[i]), status = 1;
     for (int i = 0; i < functions; i++)

@@ -1,5 +1,6 @@
 //! The repository's own crates.
 
+use eraser::erase::{erase, Place};
 use eraser::package::{ghostless, package, read};
 use std::collections::BTreeSet;
 use std::path::{Path, PathBuf};
@@ -110,4 +111,44 @@ fn the_symbols_are_the_headers() {
         .collect();
     assert_eq!(made, declared);
     assert_eq!(made.len(), p.symbols);
+}
+
+/// Sources that are cut off, or have a byte changed, are erased or refused; nothing panics. Of the cut ones most are refused.
+#[test]
+fn broken_sources_are_refused_or_erased() {
+    let sources = read(&root()).unwrap_or_else(|e| panic!("{e}"));
+    let crates: Vec<String> = sources.crates.keys().cloned().collect();
+    let mut state = 1u64;
+    let mut below = |n: usize| {
+        state = state
+            .wrapping_mul(6_364_136_223_846_793_005)
+            .wrapping_add(1_442_695_040_888_963_407);
+        (state >> 33) as usize % n
+    };
+    let (mut cut, mut refused) = (0, 0);
+    for s in &sources.files {
+        let place = Place {
+            file: &s.file,
+            krate: &s.krate,
+            uses: &sources.crates[&s.krate],
+            crates: &crates,
+        };
+        for _ in 0..60 {
+            let at = below(s.text.len());
+            if s.text.is_char_boundary(at) {
+                let tried = erase(&place, &s.text[..at]);
+                cut += 1;
+                refused += tried.is_err() as usize;
+            }
+            if s.text.as_bytes()[at].is_ascii() {
+                let mut bytes = s.text.clone().into_bytes();
+                bytes[at] = 32 + below(95) as u8;
+                let text = String::from_utf8(bytes).expect("text");
+                if let Ok(e) = erase(&place, &text) {
+                    assert_eq!(e.text.matches('\n').count(), text.matches('\n').count());
+                }
+            }
+        }
+    }
+    assert!(cut > 1000 && refused * 2 > cut, "{refused} of {cut}");
 }
