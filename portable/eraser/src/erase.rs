@@ -414,3 +414,22 @@ pub fn erase(place: &Place, text: &str) -> Result<Erased, Refusal> {
     e.out.text = format!("/* Made from {}; not to be edited. */ {body}", place.file);
     Ok(e.out)
 }
+
+#[cfg(test)]
+mod tests {
+    use super::kept;
+
+    /// A text that has lost a line is refused, whatever rule lost it.
+    #[test]
+    fn lines_that_are_lost() {
+        assert_eq!(
+            kept("a.rt", "x\ny\n", "x\n\n".into()).as_deref(),
+            Ok("x\n\n")
+        );
+        let refusal = kept("a.rt", "x\ny\n", "x\n".into()).unwrap_err();
+        assert_eq!(
+            refusal.to_string(),
+            "a.rt: the lines are not where they were"
+        );
+    }
+}
