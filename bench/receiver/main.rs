@@ -61,6 +61,7 @@ fn released(step: Result<Step, Stop>) -> (usize, usize) {
     match step.expect("accepted") {
         Step::Nothing => (0, 0),
         Step::Released(records) => records.fold((0, 0), |(n, v), r| (n + 1, v + r.values.len())),
+        other => panic!("{other:?}"),
     }
 }
 

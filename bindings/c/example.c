@@ -1,46 +1,54 @@
-// A desk sends universe 1 once, then the same sequence number again, then stops.
+/* A desk sends universe 1 once, then the same sequence number again, then stops. */
 #include "tamburelvi.h"
 #include <stdio.h>
+#include <string.h>
 
-static tamburelvi receiver;
+static tamburelvi_receiver receiver;
 static uint8_t out[TAMBURELVI_OUTPUT];
 
-static void show(tamburelvi_answer a) {
-    printf("%d", a.number);
-    switch (a.values) {
-    case TAMBURELVI_ONE:
-        printf(" %zu", a.first);
-        break;
-    case TAMBURELVI_RELEASE:
-        printf(" release %zu %zu ", a.first, a.second);
-        for (size_t i = 0; i < a.second; i++) printf("%02x", out[i]);
-        break;
-    case TAMBURELVI_PAIR:
-        printf(" %016llx%016llx %zu", (unsigned long long)a.hi, (unsigned long long)a.lo, a.first);
-        break;
-    case TAMBURELVI_SEQUENCE:
-        printf(" %zu %zu %d", a.first, a.second, a.difference);
-        break;
+static void show(tamburelvi_answer answer) {
+    tamburelvi_records records = tamburelvi_records_of(answer, out, sizeof out);
+    tamburelvi_record record;
+    enum tamburelvi_found found;
+
+    printf("%d: %s\n", answer.number, tamburelvi_number_text(answer.number));
+    while ((found = tamburelvi_records_next(&records, &record)) == TAMBURELVI_RECORD) {
+        printf("  universe %d, priority %d:", record.universe, record.priority);
+        for (size_t i = 0; i < record.values_length; i++) printf(" %d", record.values[i]);
+        printf("\n");
     }
-    printf("\n");
+    if (found == TAMBURELVI_MALFORMED) printf("  the output is no release\n");
+
+    switch (answer.number) {
+    case TAMBURELVI_UNIVERSE_TIMEOUT: printf("  universe %zu\n", answer.first); break;
+    case TAMBURELVI_OUT_OF_SEQUENCE: printf("  %zu after %zu\n", answer.first, answer.second); break;
+    case TAMBURELVI_TOO_SHORT: printf("  %zu bytes are needed\n", answer.first); break;
+    default: break;
+    }
 }
 
 int main(void) {
-    const uint8_t cid[16] = {0x11, 0x11, 0x11, 0x11, 0x11, 0x11, 0x11, 0x11, 0x11, 0x11, 0x11, 0x11, 0x11, 0x11, 0x11, 0x11};
     const uint16_t universes[] = {1};
     const uint8_t values[] = {0, 255};
-    tamburelvi_data packet = {.hi = tamburelvi_word(cid), .lo = tamburelvi_word(cid + 8), .universe = 1, .priority = 100};
-    tamburelvi_settings settings = tamburelvi_set_announce_timeout(tamburelvi_fresh_settings(), true);
+    tamburelvi_data_packet packet;
+    tamburelvi_pair pair;
 
-    tamburelvi_start(&receiver);
-    show(tamburelvi_listen(&receiver, universes, 1));
-    show(tamburelvi_take_data(&receiver, settings, 1000, packet, values, sizeof values, out, sizeof out));
-    show(tamburelvi_take_data(&receiver, settings, 1023, packet, values, sizeof values, out, sizeof out));
-    show(tamburelvi_take_data(&receiver, settings, 1023, packet, values, sizeof values, out, 100));
-    for (size_t i = 0; i < receiver.header.data_pairs; i++) {
-        tamburelvi_pair_read p = tamburelvi_data_pair(receiver.header, (const uint64_t (*)[1024][4])&receiver.data_pairs, i);
-        printf("universe %d, sequence %d, at %llu\n", p.universe, p.sequence, (unsigned long long)p.reading);
+    memset(&packet, 0, sizeof packet);
+    memset(packet.cid, 0x11, sizeof packet.cid);
+    packet.universe = 1;
+    packet.priority = 100;
+    packet.values = values;
+    packet.values_length = sizeof values;
+
+    show(tamburelvi_receiver_new(&receiver));
+    show(tamburelvi_receiver_set_announce_timeout(&receiver, true));
+    show(tamburelvi_receiver_listen_universes(&receiver, universes, 1));
+    show(tamburelvi_receiver_handle_data_packet(&receiver, 1000, &packet, out, sizeof out));
+    show(tamburelvi_receiver_handle_data_packet(&receiver, 1023, &packet, out, sizeof out));
+    show(tamburelvi_receiver_handle_data_packet(&receiver, 1023, &packet, out, 100));
+    for (size_t i = 0; tamburelvi_receiver_data_pair(&receiver, i, &pair); i++) {
+        printf("pair: universe %d, sequence %d, at %llu\n", pair.universe, pair.sequence, (unsigned long long)pair.reading);
     }
-    show(tamburelvi_sweep(&receiver, settings, 3500));
+    show(tamburelvi_receiver_poll(&receiver, 3500));
     return 0;
 }

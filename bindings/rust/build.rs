@@ -1,4 +1,4 @@
-//! Links libtamburelvi.a, which `rt staticlib tamburelvi` writes. TAMBURELVI_LIB names another folder for it.
+//! Links libtamburelvi.a, which `bindings/library` writes. TAMBURELVI_LIB names another folder for it.
 
 use std::path::PathBuf;
 
@@ -14,7 +14,7 @@ fn main() {
         println!("cargo::rustc-link-lib=static=tamburelvi");
     } else {
         println!(
-            "cargo::error={} is missing: run `rt staticlib tamburelvi` in the root of the repository",
+            "cargo::error={} is missing: run `bindings/library` in the root of the repository, or name its folder by TAMBURELVI_LIB",
             library.display()
         );
     }

@@ -1,4 +1,5 @@
 //! The functions of libtamburelvi.a, as bindings/c/tamburelvi.h has them.
+#![allow(unsafe_code)]
 
 #[derive(Clone, Copy)]
 #[repr(C)]
@@ -61,9 +62,18 @@ pub struct Page {
     pub last_page: u8,
 }
 
-/// Which values an answer has: those that a step of number 0 can have.
+/// Which values an answer has.
 pub const NONE: u8 = 0;
+/// `first`: a length, a count, a universe, or 0 or 1.
+pub const ONE: u8 = 1;
+/// `first`: records in the output; `second`: their bytes.
 pub const RELEASE: u8 = 2;
+/// `hi`, `lo`: a CID; `first`: a universe.
+pub const PAIR: u8 = 3;
+/// `first`: arriving; `second`: last; `difference`.
+pub const SEQUENCE: u8 = 4;
+/// The name of the packet in hand.
+pub const ANNOUNCED: u8 = 5;
 
 #[derive(Clone, Copy)]
 #[repr(C)]
@@ -148,23 +158,44 @@ pub type Found = [[u64; 6]; 64];
 pub type Names = [[u8; 63]; 64];
 pub type Pages = [[u64; 5]; 64];
 
-// A slice goes over as its pointer and its length.
-unsafe extern "C" {
-    pub fn tamburelvi_new(heard: *mut Heard) -> Header;
+// The sizes that the library's structs have by the C calling convention of x86-64, the one target that it is built for.
+const _: () = {
+    assert!(size_of::<usize>() == 8);
+    assert!(size_of::<Header>() == 96 && align_of::<Header>() == 8);
+    assert!(size_of::<Settings>() == 8 && align_of::<Settings>() == 2);
+    assert!(size_of::<Data>() == 32 && align_of::<Data>() == 8);
+    assert!(size_of::<Sync>() == 24 && align_of::<Sync>() == 8);
+    assert!(size_of::<Page>() == 24 && align_of::<Page>() == 8);
+    assert!(size_of::<Answer>() == 40 && align_of::<Answer>() == 8);
+    assert!(size_of::<Reply>() == 136 && align_of::<Reply>() == 8);
+    assert!(size_of::<Limited>() == 10 && align_of::<Limited>() == 2);
+    assert!(size_of::<PairRead>() == 32 && align_of::<PairRead>() == 8);
+    assert!(size_of::<CidRead>() == 16 && align_of::<CidRead>() == 8);
+    assert!(size_of::<DmxRead>() == 32 && align_of::<DmxRead>() == 8);
+    assert!(size_of::<PartRead>() == 16 && align_of::<PartRead>() == 8);
+    assert!(size_of::<SourceRead>() == 48 && align_of::<SourceRead>() == 8);
+    assert!(size_of::<PageRead>() == 32 && align_of::<PageRead>() == 8);
+};
 
-    pub fn tamburelvi_handle_data_packet(
+// SAFETY of the declarations: they are those of bindings/c/tamburelvi.h. A reference to an array is a pointer to it; a slice goes over as its pointer and its
+// length. `safe` are the functions whose contract presupposes nothing but what the parameter types say: they take numbers, or arrays of their full length,
+// and stay within them whatever header they get.
+unsafe extern "C" {
+    pub safe fn tamburelvi_new(heard: &mut Heard) -> Header;
+
+    pub unsafe fn tamburelvi_handle_data_packet(
         header: Header,
-        data_pairs: *mut Pairs,
-        data_sources: *mut Sources,
-        sync_pairs: *mut Pairs,
-        sync_sources: *mut Sources,
-        rows: *mut Rows,
+        data_pairs: &mut Pairs,
+        data_sources: &mut Sources,
+        sync_pairs: &mut Pairs,
+        sync_sources: &mut Sources,
+        rows: &mut Rows,
         store: *mut u8,
         store_length: usize,
-        heard: *mut Heard,
-        sources: *const Found,
-        names: *const Names,
-        pages: *mut Pages,
+        heard: &mut Heard,
+        sources: &Found,
+        names: &Names,
+        pages: &mut Pages,
         universes: *mut u16,
         universes_length: usize,
         settings: Settings,
@@ -176,19 +207,19 @@ unsafe extern "C" {
         out_length: usize,
     ) -> Reply;
 
-    pub fn tamburelvi_handle_sync_packet(
+    pub unsafe fn tamburelvi_handle_sync_packet(
         header: Header,
-        data_pairs: *mut Pairs,
-        data_sources: *mut Sources,
-        sync_pairs: *mut Pairs,
-        sync_sources: *mut Sources,
-        rows: *mut Rows,
+        data_pairs: &mut Pairs,
+        data_sources: &mut Sources,
+        sync_pairs: &mut Pairs,
+        sync_sources: &mut Sources,
+        rows: &mut Rows,
         store: *mut u8,
         store_length: usize,
-        heard: *const Heard,
-        sources: *const Found,
-        names: *const Names,
-        pages: *const Pages,
+        heard: &Heard,
+        sources: &Found,
+        names: &Names,
+        pages: &Pages,
         universes: *const u16,
         universes_length: usize,
         settings: Settings,
@@ -198,19 +229,19 @@ unsafe extern "C" {
         out_length: usize,
     ) -> Reply;
 
-    pub fn tamburelvi_handle_universe_discovery_packet(
+    pub unsafe fn tamburelvi_handle_universe_discovery_packet(
         header: Header,
-        data_pairs: *mut Pairs,
-        data_sources: *mut Sources,
-        sync_pairs: *mut Pairs,
-        sync_sources: *mut Sources,
-        rows: *mut Rows,
+        data_pairs: &mut Pairs,
+        data_sources: &mut Sources,
+        sync_pairs: &mut Pairs,
+        sync_sources: &mut Sources,
+        rows: &mut Rows,
         store: *mut u8,
         store_length: usize,
-        heard: *const Heard,
-        sources: *mut Found,
-        names: *mut Names,
-        pages: *mut Pages,
+        heard: &Heard,
+        sources: &mut Found,
+        names: &mut Names,
+        pages: &mut Pages,
         universes: *mut u16,
         universes_length: usize,
         settings: Settings,
@@ -224,100 +255,107 @@ unsafe extern "C" {
         out_length: usize,
     ) -> Reply;
 
-    pub fn tamburelvi_poll(
+    pub unsafe fn tamburelvi_poll(
         header: Header,
-        data_pairs: *mut Pairs,
-        data_sources: *mut Sources,
-        sync_pairs: *mut Pairs,
-        sync_sources: *mut Sources,
-        rows: *mut Rows,
+        data_pairs: &mut Pairs,
+        data_sources: &mut Sources,
+        sync_pairs: &mut Pairs,
+        sync_sources: &mut Sources,
+        rows: &mut Rows,
         store: *mut u8,
         store_length: usize,
         settings: Settings,
         reading: u64,
     ) -> Reply;
 
-    pub fn tamburelvi_remove_expired_sources(
+    pub unsafe fn tamburelvi_remove_expired_sources(
         header: Header,
-        sources: *mut Found,
-        names: *mut Names,
-        pages: *mut Pages,
+        sources: &mut Found,
+        names: &mut Names,
+        pages: &mut Pages,
         universes: *mut u16,
         universes_length: usize,
         reading: u64,
     ) -> Reply;
 
-    pub fn tamburelvi_listen_universes(
+    pub unsafe fn tamburelvi_listen_universes(
         header: Header,
-        heard: *mut Heard,
+        heard: &mut Heard,
         list: *const u16,
         list_length: usize,
     ) -> Reply;
 
-    pub fn tamburelvi_mute_universe(header: Header, heard: *mut Heard, universe: u16) -> Reply;
-
-    pub fn tamburelvi_is_listening(header: Header, heard: *const Heard, universe: u16) -> bool;
-
-    pub fn tamburelvi_clear_waiting_data(
+    pub unsafe fn tamburelvi_mute_universe(
         header: Header,
-        rows: *mut Rows,
+        heard: &mut Heard,
+        universe: u16,
+    ) -> Reply;
+
+    pub unsafe fn tamburelvi_is_listening(header: Header, heard: &Heard, universe: u16) -> bool;
+
+    pub unsafe fn tamburelvi_clear_waiting_data(
+        header: Header,
+        rows: &mut Rows,
         store: *mut u8,
         store_length: usize,
         universe: u16,
     ) -> Reply;
 
-    pub fn tamburelvi_clear_all_waiting_data(header: Header) -> Header;
+    pub safe fn tamburelvi_clear_all_waiting_data(header: Header) -> Header;
 
-    pub fn tamburelvi_reset_sources(header: Header) -> Header;
+    pub safe fn tamburelvi_reset_sources(header: Header) -> Header;
 
-    pub fn tamburelvi_fresh_settings() -> Settings;
+    pub safe fn tamburelvi_fresh_settings() -> Settings;
 
-    pub fn tamburelvi_set_process_preview_data(settings: Settings, on: bool) -> Settings;
+    pub safe fn tamburelvi_set_process_preview_data(settings: Settings, on: bool) -> Settings;
 
-    pub fn tamburelvi_set_announce_source_discovery(settings: Settings, on: bool) -> Settings;
+    pub safe fn tamburelvi_set_announce_source_discovery(settings: Settings, on: bool) -> Settings;
 
-    pub fn tamburelvi_set_announce_stream_termination(settings: Settings, on: bool) -> Settings;
+    pub safe fn tamburelvi_set_announce_stream_termination(
+        settings: Settings,
+        on: bool,
+    ) -> Settings;
 
-    pub fn tamburelvi_set_announce_timeout(settings: Settings, on: bool) -> Settings;
+    pub safe fn tamburelvi_set_announce_timeout(settings: Settings, on: bool) -> Settings;
 
-    pub fn tamburelvi_set_merge(settings: Settings, merge: u8) -> Settings;
+    pub safe fn tamburelvi_set_merge(settings: Settings, merge: u8) -> Settings;
 
-    pub fn tamburelvi_clear_source_limit(settings: Settings) -> Settings;
+    pub safe fn tamburelvi_clear_source_limit(settings: Settings) -> Settings;
 
-    pub fn tamburelvi_set_source_limit(settings: Settings, limit: u16) -> Limited;
+    pub safe fn tamburelvi_set_source_limit(settings: Settings, limit: u16) -> Limited;
 
-    pub fn tamburelvi_data_pair(header: Header, data_pairs: *const Pairs, at: usize) -> PairRead;
+    pub safe fn tamburelvi_data_pair(header: Header, data_pairs: &Pairs, at: usize) -> PairRead;
 
-    pub fn tamburelvi_sync_pair(header: Header, sync_pairs: *const Pairs, at: usize) -> PairRead;
+    pub safe fn tamburelvi_sync_pair(header: Header, sync_pairs: &Pairs, at: usize) -> PairRead;
 
-    pub fn tamburelvi_data_source(
+    pub safe fn tamburelvi_data_source(
         header: Header,
-        data_sources: *const Sources,
+        data_sources: &Sources,
         at: usize,
     ) -> CidRead;
 
-    pub fn tamburelvi_sync_source(
+    pub safe fn tamburelvi_sync_source(
         header: Header,
-        sync_sources: *const Sources,
+        sync_sources: &Sources,
         at: usize,
     ) -> CidRead;
 
-    pub fn tamburelvi_listened(header: Header, heard: *const Heard, at: usize) -> u16;
+    pub safe fn tamburelvi_listened(header: Header, heard: &Heard, at: usize) -> u16;
 
-    pub fn tamburelvi_waiting(header: Header, rows: *const Rows, at: usize) -> DmxRead;
+    pub safe fn tamburelvi_waiting(header: Header, rows: &Rows, at: usize) -> DmxRead;
 
-    pub fn tamburelvi_waiting_values(header: Header, rows: *const Rows, at: usize) -> PartRead;
+    pub safe fn tamburelvi_waiting_values(header: Header, rows: &Rows, at: usize) -> PartRead;
 
-    pub fn tamburelvi_source_at(
+    pub safe fn tamburelvi_source_at(
         header: Header,
-        sources: *const Found,
+        sources: &Found,
         mark: u64,
         at: usize,
     ) -> SourceRead;
 
-    pub fn tamburelvi_page_at(
+    pub safe fn tamburelvi_page_at(
         header: Header,
-        pages: *const Pages,
+        pages: &Pages,
         mark: u64,
         hi: u64,
         lo: u64,

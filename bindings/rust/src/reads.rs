@@ -1,23 +1,32 @@
 //! The receiver's state, read out entry by entry.
 
+use crate::stop::{Text, narrow};
 use crate::{Cid, Receiver, Record, ffi};
+use core::fmt;
 
-/// A pair that a table holds.
+/// A pair that a table holds: a source and a universe, with its last accepted arrival.
 #[derive(Clone, Copy, PartialEq, Eq, Debug)]
 pub struct Pair {
+    /// The source.
     pub cid: Cid,
     /// The universe, or the address in the synchronisation table.
     pub universe: u16,
+    /// The sequence number that was accepted last.
     pub sequence: u8,
+    /// When that was, in milliseconds.
     pub reading: u64,
 }
 
 /// A discovered source.
 #[derive(Clone, Copy)]
 pub struct Source<'a> {
+    /// The source.
     pub cid: Cid,
+    /// Its name, as it came from the network; [`Name`](crate::Name) shows it.
     pub name: &'a [u8],
+    /// The number of its last page.
     pub last_page: u8,
+    /// When its last page arrived, in milliseconds.
     pub reading: u64,
     receiver: &'a Receiver,
     mark: u64,
@@ -26,7 +35,9 @@ pub struct Source<'a> {
 /// A page of a discovered source.
 #[derive(Clone, Copy, PartialEq, Eq, Debug)]
 pub struct Page<'a> {
+    /// Its number, from 0.
     pub number: u8,
+    /// Its universes, in the order in which they came.
     pub universes: &'a [u16],
 }
 
@@ -39,50 +50,43 @@ fn pair(p: ffi::PairRead) -> Pair {
     }
 }
 
-// SAFETY of every call: the memory is the receiver's own, as its last call left it, and is only read.
+/// The state, for a program that shows or compares it. Reading changes nothing.
 impl Receiver {
     /// The pairs of the data table, by ascending CID, then universe.
     pub fn data_pairs(&self) -> impl ExactSizeIterator<Item = Pair> + '_ {
-        let (h, m) = (self.header, &self.memory.data_pairs);
-        (0..h.data_pairs).map(move |i| pair(unsafe { ffi::tamburelvi_data_pair(h, m, i) }))
+        (0..self.state.header().data_pairs).map(|i| pair(self.state.data_pair(i)))
     }
 
     /// The pairs of the synchronisation table, by ascending CID, then address.
     pub fn sync_pairs(&self) -> impl ExactSizeIterator<Item = Pair> + '_ {
-        let (h, m) = (self.header, &self.memory.sync_pairs);
-        (0..h.sync_pairs).map(move |i| pair(unsafe { ffi::tamburelvi_sync_pair(h, m, i) }))
+        (0..self.state.header().sync_pairs).map(|i| pair(self.state.sync_pair(i)))
     }
 
     /// The sources that the data table counts, ascending.
     pub fn data_sources(&self) -> impl ExactSizeIterator<Item = Cid> + '_ {
-        let (h, m) = (self.header, &self.memory.data_sources);
-        (0..h.data_sources).map(move |i| {
-            let c = unsafe { ffi::tamburelvi_data_source(h, m, i) };
+        (0..self.state.header().data_sources).map(|i| {
+            let c = self.state.data_source(i);
             Cid::of(c.hi, c.lo)
         })
     }
 
     /// The sources that the synchronisation table counts, ascending.
     pub fn sync_sources(&self) -> impl ExactSizeIterator<Item = Cid> + '_ {
-        let (h, m) = (self.header, &self.memory.sync_sources);
-        (0..h.sync_sources).map(move |i| {
-            let c = unsafe { ffi::tamburelvi_sync_source(h, m, i) };
+        (0..self.state.header().sync_sources).map(|i| {
+            let c = self.state.sync_source(i);
             Cid::of(c.hi, c.lo)
         })
     }
 
-    /// The listened universes, ascending.
+    /// The listened universes, ascending. A step on a data packet adds its synchronisation address.
     pub fn listened_universes(&self) -> impl ExactSizeIterator<Item = u16> + '_ {
-        let (h, m) = (self.header, &self.memory.heard);
-        (0..h.listened).map(move |i| unsafe { ffi::tamburelvi_listened(h, m, i) })
+        (0..self.state.header().listened).map(|i| self.state.listened(i))
     }
 
     /// What waits for synchronisation, by ascending universe.
     pub fn waiting_data(&self) -> impl ExactSizeIterator<Item = Record<'_>> + '_ {
-        let (h, m) = (self.header, &self.memory);
-        (0..h.waiting).map(move |i| {
-            let d = unsafe { ffi::tamburelvi_waiting(h, &m.rows, i) };
-            let part = unsafe { ffi::tamburelvi_waiting_values(h, &m.rows, i) };
+        (0..self.state.header().waiting).map(|i| {
+            let (d, values) = self.state.waiting(i);
             Record {
                 universe: d.universe,
                 address: d.address,
@@ -90,7 +94,7 @@ impl Receiver {
                 preview: d.preview,
                 cid: d.has_cid.then(|| Cid::of(d.hi, d.lo)),
                 reading: d.reading,
-                values: &m.store[part.start..part.start + part.count],
+                values,
             }
         })
     }
@@ -107,12 +111,11 @@ impl Receiver {
 
     fn sources_of(&self, mark: u64) -> impl Iterator<Item = Source<'_>> {
         (0..).map_while(move |i| {
-            let s =
-                unsafe { ffi::tamburelvi_source_at(self.header, &self.memory.sources, mark, i) };
-            (s.place < self.header.sources).then(|| Source {
+            let (s, name) = self.state.source_at(mark, i)?;
+            Some(Source {
                 cid: Cid::of(s.hi, s.lo),
-                name: &self.memory.names[s.place][..s.name_length as usize],
-                last_page: s.last_page as u8,
+                name,
+                last_page: narrow(s.last_page),
                 reading: s.reading,
                 receiver: self,
                 mark,
@@ -125,19 +128,28 @@ impl<'a> Source<'a> {
     /// Its pages, by ascending number.
     pub fn pages(&self) -> impl Iterator<Item = Page<'a>> + use<'a> {
         let Source {
-            receiver: r,
+            receiver,
             mark,
             cid,
             ..
         } = *self;
-        let (hi, lo) = cid.words();
         (0..).map_while(move |i| {
-            let p = unsafe { ffi::tamburelvi_page_at(r.header, &r.memory.pages, mark, hi, lo, i) };
-            let end = p.start + p.count as usize;
-            (p.place < r.header.pages).then(|| Page {
-                number: p.number as u8,
-                universes: &r.memory.universes[p.start..end],
+            let (p, universes) = receiver.state.page_at(mark, cid.words(), i)?;
+            Some(Page {
+                number: narrow(p.number),
+                universes,
             })
         })
+    }
+}
+
+impl fmt::Debug for Source<'_> {
+    fn fmt(&self, f: &mut fmt::Formatter<'_>) -> fmt::Result {
+        f.debug_struct("Source")
+            .field("cid", &self.cid)
+            .field("name", &Text(self.name))
+            .field("last_page", &self.last_page)
+            .field("reading", &self.reading)
+            .finish_non_exhaustive()
     }
 }

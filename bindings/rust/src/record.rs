@@ -1,27 +1,32 @@
 //! Released data: document 01's records, read from the output of a step.
 
 use crate::Cid;
+use core::fmt;
+use core::iter::FusedIterator;
 
-/// A release of a step: an iterator over its records, by ascending universe.
-#[derive(Clone, Debug)]
+/// A release of a step: an iterator over its records, by ascending universe. It borrows the receiver's output, so it is used before the next call.
+#[derive(Clone)]
 pub struct Records<'a> {
     left: &'a [u8],
     count: usize,
 }
 
-/// One universe's data.
+/// One universe's data, released or waiting.
 #[derive(Clone, Copy, Debug, PartialEq, Eq)]
 pub struct Record<'a> {
+    /// The universe of the values.
     pub universe: u16,
     /// The synchronisation address, 0 where the data was not synchronised.
     pub address: u16,
+    /// The priority of the data.
     pub priority: u8,
+    /// Not for live output.
     pub preview: bool,
-    /// The source, or none where data of several was merged.
+    /// The source, or none where data of equal priority was merged by highest value.
     pub cid: Option<Cid>,
-    /// When it was received, in milliseconds.
+    /// When it was received, in milliseconds; of merged data the older's.
     pub reading: u64,
-    /// The values with their start code.
+    /// The values, the start code first.
     pub values: &'a [u8],
 }
 
@@ -30,7 +35,7 @@ impl<'a> Records<'a> {
         Records { left: bytes, count }
     }
 
-    /// The bytes that are left, as document 01 lays them out.
+    /// The bytes of the records that are left, as document 01 lays them out.
     pub fn bytes(&self) -> &'a [u8] {
         self.left
     }
@@ -39,7 +44,7 @@ impl<'a> Records<'a> {
 const HEAD: usize = 35;
 
 fn at<const N: usize>(bytes: &[u8], place: usize) -> [u8; N] {
-    std::array::from_fn(|i| bytes[place + i])
+    core::array::from_fn(|i| bytes[place + i])
 }
 
 impl<'a> Iterator for Records<'a> {
@@ -71,3 +76,11 @@ impl<'a> Iterator for Records<'a> {
 }
 
 impl ExactSizeIterator for Records<'_> {}
+
+impl FusedIterator for Records<'_> {}
+
+impl fmt::Debug for Records<'_> {
+    fn fmt(&self, f: &mut fmt::Formatter<'_>) -> fmt::Result {
+        f.debug_list().entries(self.clone()).finish()
+    }
+}

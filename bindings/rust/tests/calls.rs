@@ -16,12 +16,15 @@ fn packet(source: u8, universe: u16, sequence: u8, values: &[u8]) -> DataPacket<
     }
 }
 
-fn released(step: Result<Step, Stop>) -> Vec<(u16, u16, Option<Cid>, u64, Vec<u8>)> {
+type Seen = (u16, u16, Option<Cid>, u64, Vec<u8>);
+
+fn released(step: Result<Step, Stop>) -> Vec<Seen> {
     match step.expect("nothing stops it") {
         Step::Nothing => Vec::new(),
         Step::Released(records) => records
             .map(|r| (r.universe, r.address, r.cid, r.reading, r.values.to_vec()))
             .collect(),
+        other => panic!("{other:?}"),
     }
 }
 
@@ -79,7 +82,7 @@ fn waiting_data_is_released_by_ascending_universe() {
 fn stops_have_their_number_and_values() {
     let mut receiver = Receiver::new();
     let long = [0; 514];
-    let stop = |step: Result<Step, Stop<'static>>| step.map(|_| ()).unwrap_err();
+    let stop = |step: Result<Step, Stop>| step.map(|_| ()).unwrap_err();
     assert_eq!(
         receiver.listen_universes(&[1, 0, 64_000]),
         Err(Stop::IllegalUniverse(0))
@@ -139,9 +142,11 @@ fn stops_have_their_number_and_values() {
     let discovered = receiver
         .handle_universe_discovery_packet(0, &page)
         .unwrap_err();
+    drop(name);
+    let name = b"a desk"[..].try_into().unwrap();
     assert_eq!(
         (discovered, discovered.number()),
-        (Stop::SourceDiscovered(b"a desk"), 9)
+        (Stop::SourceDiscovered(name), 9)
     );
 }
 

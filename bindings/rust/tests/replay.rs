@@ -74,7 +74,8 @@ fn said(stop: Stop) -> String {
         } => {
             format!("{number} {arriving} {last} {difference}")
         }
-        Stop::SourceDiscovered(name) => format!("{number} {}", hex(name)),
+        Stop::SourceDiscovered(name) => format!("{number} {}", hex(name.as_bytes())),
+        // The others have no values. One that has, and is forgotten here, shows as a difference.
         _ => number.to_string(),
     }
 }
@@ -94,6 +95,7 @@ fn stepped(step: Result<Step, Stop>) -> String {
                 hex(records.bytes())
             )
         }
+        Ok(other) => panic!("{other:?}"),
         Err(stop) => said(stop),
     }
 }
@@ -385,6 +387,8 @@ fn run(seed: u64) -> Run {
         if r.chance(40) {
             let state = dump(&run.receiver);
             run.line("dump".into(), state);
+            // From here on a clone goes on.
+            run.receiver = run.receiver.clone();
         } else if r.chance(25) {
             run.setting(&mut r);
         } else if r.chance(10) {

@@ -6,3 +6,4 @@ pub mod Arrays
 pub mod Parts
 pub mod Gap
 pub mod Lent
+pub mod Halving

@@ -56,26 +56,28 @@ enum Illegal {
     Nothing,
 }
 
-// How many of the first n universes are below this one.
+// How many of the first n universes are below this one, by halving.
 fn place_of(rows: &ListenedUniverses, n: usize, universe: u16) -> usize
-    requires { ⌜ (n ≤ most-listened) × (length (now rows) ≡ most-listened) ⌝ }
+    requires { ⌜ Kept (listened n) (now rows) ⌝ }
     ensures { λ r. ⌜ (r ≤ n) × (r ≡ place ltb itself universe (take n (now (rows .entry)))) ⌝ }
 {
-    let mut i: usize = 0;
-    while i < n {
-        let own = rows[i];
+    let mut low: usize = 0;
+    let mut high = n;
+    while low < high {
+        let middle = low + (high - low) / 2;
+        let own = rows[middle];
         if own < universe {
-            i += 1;
+            low = middle + 1;
         } else {
-            return i;
+            high = middle;
         }
     }
-    i
+    low
 }
 
 // Where this universe stands among the first n, or would be put in.
 fn find(rows: &ListenedUniverses, n: usize, universe: u16) -> Spot
-    requires { ⌜ (n ≤ most-listened) × (length (now rows) ≡ most-listened) ⌝ }
+    requires { ⌜ Kept (listened n) (now rows) ⌝ }
     ensures { λ r. ⌜ r ≡ spotOf universe (take n (now (rows .entry))) ⌝ }
 {
     let i = place_of(rows, n, universe);

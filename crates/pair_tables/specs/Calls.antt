@@ -298,3 +298,11 @@ pub sweep-renewed : (t : PairTable) (pairs sources : Rows) (k : Kept t pairs sou
 sweep-renewed t pairs sources k now u e =
     subst (λ (v : PairTable). v .tidy && not (expired now (v .oldest)) ≡ true → Follows v pairs sources Quiet (answered (sweep false now (tableOf t pairs sources)))) (sym e)
     (sweep-idle (renewed t pairs sources) pairs sources (renewed-kept t pairs sources k) now)
+
+-- a walk that notes nothing, after which the notes are made anew
+pub announced-renewed : (t : PairTable) (pairs sources : Rows) (k : Kept t pairs sources) (now : ℕ) (u : PairTable) → u ≡ renewed t pairs sources
+    → noteOf (noted now (tableOf t pairs sources .pairs) (tableOf t pairs sources .sources)) ≡ Quiet
+    → Follows u pairs sources Quiet (answered (sweep true now (tableOf t pairs sources)))
+announced-renewed t pairs sources k now u e n =
+    subst (λ (v : PairTable). Follows v pairs sources Quiet (answered (sweep true now (tableOf t pairs sources)))) (sym e)
+    (announced-none (renewed t pairs sources) pairs sources (renewed-kept t pairs sources k) now n)

@@ -227,7 +227,7 @@ impl PairTable {
         }
     }
 
-    // The pair of the last source noted goes, and is told.
+    // The pair of the last source noted goes, and is told; where none is noted the header's notes are made anew.
     fn sweep_announced(self, pairs: &mut PairRows, sources: &mut SourceRows, reading: u64) -> Swept
         requires { ⌜ Kept self (now pairs) (now sources) ⌝ }
         ensures view { λ r. ⌜ Leaves (r .table) pairs sources (r .answer) (answered (sweep true reading (at-entry self pairs sources))) ⌝ }
@@ -241,8 +241,9 @@ impl PairTable {
                 self.source_count,
                 reading,
             ) else {
+                let renewed = self.renew_notes(&*pairs, &*sources);
                 return Swept {
-                    table: self,
+                    table: renewed,
                     answer: SweepAnswer::Quiet,
                 };
             };

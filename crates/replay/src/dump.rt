@@ -7,10 +7,10 @@ ghost use Rattle.pair_tables.specs.View.{tableOf};
 ghost use Rattle.merge.specs.Views.{dmx};
 ghost use Rattle.waiting_store.specs.Entries.{waitingOf};
 ghost use Rattle.waiting.specs.Waiting.{store-length};
-ghost use Rattle.waiting_store.specs.Entries as waiting;
+ghost use Rattle.waiting_store.specs.Entries.{Kept as WaitingKept};
 ghost use Rattle.listening.specs.View.{listenedOf};
 ghost use Rattle.discovery_rows.specs.Rows.{Packing};
-ghost use Rattle.discovery_calls.specs.View as discovery;
+ghost use Rattle.discovery_calls.specs.View.{Kept as DiscoveryKept, discoveredOf};
 ghost use Rattle.discovery_reads.specs.Reads.{pages-of, sources-of};
 ghost use Rattle.receiver.specs.Lent.{lent, lent-in};
 ghost use Rattle.discovery.specs.Discovery.{pool-length};
@@ -174,7 +174,7 @@ pub fn put_waiting(
     rows: &EntryRows,
     store: &[u8],
 ) -> usize
-    requires { ⌜ Ready at (now out) × waiting.Kept (waiting .count) (now rows) (now store) ⌝ }
+    requires { ⌜ Ready at (now out) × WaitingKept (waiting .count) (now rows) (now store) ⌝ }
     ensures { λ r. ⌜ Tells (lines waitingLine (waitingOf (waiting .count) (now (rows .entry)) (now (store .entry))))
         (now (out .entry)) at (now (out .exit)) r ⌝ }
 {
@@ -321,7 +321,7 @@ fn put_source_at(
     pages: &PageRows,
     universes: &[u16],
 ) -> usize
-    requires { ⌜ Ready at (now out) × discovery.Kept discovery (now sources) (now names) (now pages) (now universes) ×
+    requires { ⌜ Ready at (now out) × DiscoveryKept discovery (now sources) (now names) (now pages) (now universes) ×
         (k < length (sources-of mark discovery (now sources) (now names) (now pages) (now universes))) ⌝ }
     ensures { λ r. ⌜ Tells (sourceText letter (getD
         (sources-of mark discovery (now (sources .entry)) (now (names .entry)) (now (pages .entry)) (now (universes .entry))) k
@@ -359,7 +359,7 @@ fn put_sources(
     pages: &PageRows,
     universes: &[u16],
 ) -> usize
-    requires { ⌜ Ready at (now out) × discovery.Kept discovery (now sources) (now names) (now pages) (now universes) ×
+    requires { ⌜ Ready at (now out) × DiscoveryKept discovery (now sources) (now names) (now pages) (now universes) ×
         (count ≡ length (sources-of mark discovery (now sources) (now names) (now pages) (now universes))) ⌝ }
     ensures { λ r. ⌜ Tells (lines (sourceText letter)
         (sources-of mark discovery (now (sources .entry)) (now (names .entry)) (now (pages .entry)) (now (universes .entry))))
@@ -395,8 +395,8 @@ fn put_discovered(
     pages: &PageRows,
     universes: &[u16],
 ) -> usize
-    requires { ⌜ Ready at (now out) × discovery.Kept discovery (now sources) (now names) (now pages) (now universes) ⌝ }
-    ensures { λ r. ⌜ Tells (discoveredText (discovery.discoveredOf discovery (now (sources .entry)) (now (names .entry))
+    requires { ⌜ Ready at (now out) × DiscoveryKept discovery (now sources) (now names) (now pages) (now universes) ⌝ }
+    ensures { λ r. ⌜ Tells (discoveredText (discoveredOf discovery (now (sources .entry)) (now (names .entry))
         (now (pages .entry)) (now (universes .entry)))) (now (out .entry)) at (now (out .exit)) r ⌝ }
 {
     let partial = partial_count(discovery, sources);

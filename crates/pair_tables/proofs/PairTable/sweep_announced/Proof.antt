@@ -1,7 +1,7 @@
--- Nothing can be expired, nothing is noted, or the pair that is noted goes.
+-- Nothing can be expired; nothing is noted, and the notes are made anew; or the pair that is noted goes.
 -- Assumes nothing.
 use mathlib.Core.Path.{sym, _∙_}
-use Rattle.pair_tables.specs.Calls.{announced-idle, announced-none, announced-some, rows-stay, rows-told}
+use Rattle.pair_tables.specs.Calls.{announced-idle, announced-renewed, announced-some, rows-stay, rows-told}
 use borrow.Author.Needs.{needs}
 use Rattle.pair_tables.proofs.PairTable.sweep_announced.Statement.{statement}
 use Rattle.pair_tables.proofs.PairTable.sweep_announced.Tie as tie
@@ -18,12 +18,18 @@ enum-known-cid c = search needs
 enum-told : tie.Need-enum-told
 enum-told c = search needs
 
+renew-notes-requires : tie.Need-renew-notes-requires
+renew-notes-requires c κs = search needs
+
 returns : tie.Need-returns
 returns c =
-    let t = c .before .before in
+    let o = c .before .before .before in
+    let t = o .before .before in
     let s = t .before .before .before .before .before in
-    let v = s .args in
-    (announced-none (v .self) (v .pairs .now) (v .sources .now) (s .pre) (v .reading) (sym (t .note .ensures) ∙ c .enum-told .given .1), rows-stay (v .self) (v .pairs .now) (v .sources .now) (s .pre) (v .reading))
+    let v = s .args in (
+      announced-renewed (v .self) (v .pairs .now) (v .sources .now) (s .pre) (v .reading) (c .renew-notes .result) (c .renew-notes .ensures) (sym (t .note .ensures) ∙ o .enum-told .given .1),
+      rows-stay (v .self) (v .pairs .now) (v .sources .now) (s .pre) (v .reading),
+    )
 
 remove-requires : tie.Need-remove-requires
 remove-requires c κs = search needs
@@ -54,6 +60,7 @@ sweep-announced-spec =
     note-requires
     enum-known-cid
     enum-told
+    renew-notes-requires
     returns
     remove-requires
     returns-2

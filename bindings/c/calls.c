@@ -1,0 +1,653 @@
+/* Every function of tamburelvi.h, and every number that a caller can bring about. calls.expected was written by hand from
+ * document 01; the comments name its rules. */
+#include "tamburelvi.h"
+#include <stdio.h>
+#include <stdlib.h>
+#include <string.h>
+
+static tamburelvi_receiver receiver;
+static tamburelvi_receiver *const r = &receiver;
+static uint8_t out[TAMBURELVI_OUTPUT];
+static uint8_t values[TAMBURELVI_VALUES + 1];
+static uint8_t name[TAMBURELVI_NAME + 1];
+static uint16_t list[1100];
+static uint8_t beside[2 + TAMBURELVI_OUTPUT + 2];
+
+/* ---- what is printed ---- */
+
+static void print_cid(const uint8_t cid[TAMBURELVI_CID]) {
+    for (int i = 0; i < TAMBURELVI_CID; i++) printf("%02x", cid[i]);
+}
+
+static void show(const char *call, tamburelvi_answer a) {
+    uint8_t cid[TAMBURELVI_CID];
+    printf("%s: %d", call, a.number);
+    switch (a.values) {
+    case TAMBURELVI_NONE: break;
+    case TAMBURELVI_ONE: printf(" %zu", a.first); break;
+    case TAMBURELVI_RELEASE: printf(" release %zu %zu", a.first, a.second); break;
+    case TAMBURELVI_PAIR:
+        printf(" ");
+        if (tamburelvi_answer_cid(a, cid)) print_cid(cid);
+        printf(" %zu", a.first);
+        break;
+    case TAMBURELVI_SEQUENCE: printf(" %zu %zu %d", a.first, a.second, a.difference); break;
+    case TAMBURELVI_ANNOUNCED: printf(" announced"); break;
+    default: printf(" unknown values %d", a.values);
+    }
+    printf("\n");
+}
+
+static void print_record(const tamburelvi_record *d) {
+    printf("universe %d, address %d, priority %d, preview %d, ", d->universe, d->address, d->priority, d->preview);
+    if (d->has_cid) print_cid(d->cid);
+    else printf("merged");
+    printf(", at %llu:", (unsigned long long)d->reading);
+    for (size_t i = 0; i < d->values_length; i++) printf(" %d", d->values[i]);
+    printf("\n");
+}
+
+static void show_release(const char *call, tamburelvi_answer a) {
+    tamburelvi_records records = tamburelvi_records_of(a, out, sizeof out);
+    tamburelvi_record record;
+    enum tamburelvi_found found;
+    show(call, a);
+    while ((found = tamburelvi_records_next(&records, &record)) == TAMBURELVI_RECORD) {
+        printf("  record: ");
+        print_record(&record);
+    }
+    if (found != TAMBURELVI_END) printf("  malformed\n");
+}
+
+static void show_pairs(void) {
+    tamburelvi_pair p;
+    uint8_t cid[TAMBURELVI_CID];
+    for (size_t i = 0; tamburelvi_receiver_data_pair(r, i, &p); i++) {
+        printf("  data pair ");
+        print_cid(p.cid);
+        printf(" %d, sequence %d, at %llu\n", p.universe, p.sequence, (unsigned long long)p.reading);
+    }
+    for (size_t i = 0; tamburelvi_receiver_data_source(r, i, cid); i++) {
+        printf("  data source ");
+        print_cid(cid);
+        printf("\n");
+    }
+    for (size_t i = 0; tamburelvi_receiver_sync_pair(r, i, &p); i++) {
+        printf("  sync pair ");
+        print_cid(p.cid);
+        printf(" %d, sequence %d, at %llu\n", p.universe, p.sequence, (unsigned long long)p.reading);
+    }
+    for (size_t i = 0; tamburelvi_receiver_sync_source(r, i, cid); i++) {
+        printf("  sync source ");
+        print_cid(cid);
+        printf("\n");
+    }
+    printf("  no more pairs\n");
+}
+
+static void show_listened(void) {
+    uint16_t universe;
+    printf("  listened:");
+    for (size_t i = 0; tamburelvi_receiver_listened(r, i, &universe); i++) printf(" %d", universe);
+    printf("\n");
+}
+
+static void show_waiting(void) {
+    tamburelvi_record d;
+    for (size_t i = 0; tamburelvi_receiver_waiting(r, i, &d); i++) {
+        printf("  waiting: ");
+        print_record(&d);
+    }
+    printf("  no more waiting data\n");
+}
+
+static void show_list(const char *which, enum tamburelvi_mark mark) {
+    tamburelvi_source s;
+    tamburelvi_source_page p;
+    for (size_t i = 0; tamburelvi_receiver_source_at(r, mark, i, &s); i++) {
+        printf("  %s ", which);
+        print_cid(s.cid);
+        printf(" '%.*s', last page %d, at %llu\n", (int)s.name_length, (const char *)s.name, s.last_page,
+            (unsigned long long)s.reading);
+        for (size_t j = 0; tamburelvi_receiver_page_at(r, &s, j, &p); j++) {
+            printf("    page %d:", p.number);
+            for (size_t k = 0; k < p.universes_length; k++) printf(" %d", p.universes[k]);
+            printf("\n");
+        }
+    }
+}
+
+static void show_sources(void) {
+    show_list("partial", TAMBURELVI_PARTIAL);
+    show_list("listed", TAMBURELVI_LISTED);
+    printf("  no more sources\n");
+}
+
+static void show_settings(void) {
+    const tamburelvi_settings *s = &receiver.settings;
+    printf("  settings: %d %d %d %d %d %d\n", s->process_preview_data, s->announce_source_discovery,
+        s->announce_stream_termination, s->announce_timeout, s->merge, s->source_limit);
+}
+
+/* ---- packets ---- */
+
+/* The CID of the trial value, sixteen bytes of hexadecimal 11, or sixteen that differ. */
+static void fill(uint8_t cid[TAMBURELVI_CID], uint8_t source) {
+    for (int i = 0; i < TAMBURELVI_CID; i++) cid[i] = (uint8_t)(source == 0x11 ? source : source + i);
+}
+
+static tamburelvi_data_packet data(uint8_t source, uint16_t universe, uint16_t address, uint8_t sequence, size_t count) {
+    tamburelvi_data_packet p;
+    memset(&p, 0, sizeof p);
+    fill(p.cid, source);
+    p.universe = universe;
+    p.address = address;
+    p.priority = 100;
+    p.sequence = sequence;
+    p.values = values;
+    p.values_length = count;
+    return p;
+}
+
+static tamburelvi_answer take(uint64_t reading, tamburelvi_data_packet p) {
+    return tamburelvi_receiver_handle_data_packet(r, reading, &p, out, sizeof out);
+}
+
+static tamburelvi_answer take_sync(uint64_t reading, uint8_t source, uint16_t address, uint8_t sequence, size_t out_length) {
+    tamburelvi_sync_packet p;
+    fill(p.cid, source);
+    p.address = address;
+    p.sequence = sequence;
+    return tamburelvi_receiver_handle_sync_packet(r, reading, &p, out, out_length);
+}
+
+static tamburelvi_discovery_packet page(uint8_t source, uint8_t number, uint8_t last, size_t name_length, size_t list_length) {
+    tamburelvi_discovery_packet p;
+    fill(p.cid, source);
+    p.page = number;
+    p.last_page = last;
+    p.name = name;
+    p.name_length = name_length;
+    p.universes = list;
+    p.universes_length = list_length;
+    return p;
+}
+
+static tamburelvi_answer take_page(uint64_t reading, tamburelvi_discovery_packet p) {
+    return tamburelvi_receiver_handle_universe_discovery_packet(r, reading, &p, out, sizeof out);
+}
+
+/* ---- the parts ---- */
+
+static void words(void) {
+    uint8_t cid[TAMBURELVI_CID], back[TAMBURELVI_CID];
+    printf("version %s is %d.%d.%d\n", TAMBURELVI_VERSION, TAMBURELVI_VERSION_MAJOR, TAMBURELVI_VERSION_MINOR,
+        TAMBURELVI_VERSION_PATCH);
+    for (int i = 0; i < TAMBURELVI_CID; i++) cid[i] = (uint8_t)(0xf0 + i);
+    printf("words %016llx %016llx\n", (unsigned long long)tamburelvi_cid_hi(cid), (unsigned long long)tamburelvi_cid_lo(cid));
+    tamburelvi_cid_bytes(tamburelvi_cid_hi(cid), tamburelvi_cid_lo(cid), back);
+    printf("bytes ");
+    print_cid(back);
+    printf("\n");
+    for (unsigned n = 0; n < 260; n++) {
+        const char *text = tamburelvi_number_text(n);
+        if (strcmp(text, "unknown number")) printf("%u %s\n", n, text);
+    }
+    printf("17 %s\n256 %s\n", tamburelvi_number_text(17), tamburelvi_number_text(256));
+}
+
+/* All calls with a receiver that no call is made with. */
+static void unmade(const char *which, tamburelvi_receiver *q) {
+    tamburelvi_data_packet d = data(1, 1, 0, 0, 2);
+    tamburelvi_sync_packet y;
+    tamburelvi_discovery_packet g = page(1, 0, 0, 4, 2);
+    tamburelvi_pair pair;
+    tamburelvi_record record;
+    tamburelvi_source source;
+    tamburelvi_source_page source_page;
+    uint8_t cid[TAMBURELVI_CID];
+    uint16_t universe;
+    memset(&y, 0, sizeof y);
+    memset(&source, 0, sizeof source);
+    printf("%s: %d %d %d %d %d %d %d %d %d %d", which, tamburelvi_receiver_handle_data_packet(q, 0, &d, out, sizeof out).number,
+        tamburelvi_receiver_handle_sync_packet(q, 0, &y, out, sizeof out).number,
+        tamburelvi_receiver_handle_universe_discovery_packet(q, 0, &g, out, sizeof out).number,
+        tamburelvi_receiver_poll(q, 0).number, tamburelvi_receiver_remove_expired_sources(q, 0).number,
+        tamburelvi_receiver_listen_universes(q, list, 1).number, tamburelvi_receiver_mute_universe(q, 1).number,
+        tamburelvi_receiver_clear_waiting_data(q, 1).number, tamburelvi_receiver_clear_all_waiting_data(q).number,
+        tamburelvi_receiver_reset_sources(q).number);
+    printf(", settings %d %d %d %d %d %d %d %d", tamburelvi_receiver_fresh_settings(q).number,
+        tamburelvi_receiver_set_process_preview_data(q, true).number,
+        tamburelvi_receiver_set_announce_source_discovery(q, true).number,
+        tamburelvi_receiver_set_announce_stream_termination(q, true).number,
+        tamburelvi_receiver_set_announce_timeout(q, true).number,
+        tamburelvi_receiver_set_merge(q, TAMBURELVI_HTP_DMX_MERGE).number, tamburelvi_receiver_clear_source_limit(q).number,
+        tamburelvi_receiver_set_source_limit(q, 1).number);
+    printf(", read-outs %d %d %d %d %d %d %d %d %d\n", tamburelvi_receiver_is_listening(q, 64214),
+        tamburelvi_receiver_data_pair(q, 0, &pair), tamburelvi_receiver_sync_pair(q, 0, &pair),
+        tamburelvi_receiver_data_source(q, 0, cid), tamburelvi_receiver_sync_source(q, 0, cid),
+        tamburelvi_receiver_listened(q, 0, &universe), tamburelvi_receiver_waiting(q, 0, &record),
+        tamburelvi_receiver_source_at(q, TAMBURELVI_LISTED, 0, &source),
+        tamburelvi_receiver_page_at(q, &source, 0, &source_page));
+}
+
+/* Null pointers and overlap with a started receiver; none of it changes anything. */
+static void unmade_packets(void) {
+    tamburelvi_data_packet d = data(1, 1, 0, 0, 2);
+    tamburelvi_sync_packet y;
+    tamburelvi_discovery_packet g;
+    tamburelvi_source source;
+    memset(&y, 0, sizeof y);
+    memset(&source, 0, sizeof source);
+    show("no data packet", tamburelvi_receiver_handle_data_packet(r, 0, NULL, out, sizeof out));
+    show("no sync packet", tamburelvi_receiver_handle_sync_packet(r, 0, NULL, out, sizeof out));
+    show("no discovery packet", tamburelvi_receiver_handle_universe_discovery_packet(r, 0, NULL, out, sizeof out));
+    show("no output, by its length", tamburelvi_receiver_handle_data_packet(r, 0, &d, NULL, 0));
+    show("no output", tamburelvi_receiver_handle_data_packet(r, 0, &d, NULL, sizeof out));
+    show("no output of a sync packet", tamburelvi_receiver_handle_sync_packet(r, 0, &y, NULL, sizeof out));
+    d.values = NULL;
+    show("no values", take(0, d));
+    d.values = receiver.memory.store;
+    show("values in the receiver", take(0, d));
+    d.values = out + sizeof out - 1;
+    d.values_length = 1;
+    show("values at the output's end", take(0, d));
+    d.values = beside;
+    d.values_length = 2;
+    show("values just before the output", tamburelvi_receiver_handle_data_packet(r, 0, &d, beside + 2, TAMBURELVI_OUTPUT));
+    d.values = beside + 2 + TAMBURELVI_OUTPUT;
+    show("values just behind the output", tamburelvi_receiver_handle_data_packet(r, 0, &d, beside + 2, TAMBURELVI_OUTPUT));
+    d.values = beside + 1;
+    show("values that end in the output", tamburelvi_receiver_handle_data_packet(r, 0, &d, beside + 2, TAMBURELVI_OUTPUT));
+    d.values = values;
+    show("output in the receiver",
+        tamburelvi_receiver_handle_data_packet(r, 0, &d, receiver.memory.store, sizeof receiver.memory.store));
+    show("output of a sync packet in the receiver",
+        tamburelvi_receiver_handle_sync_packet(r, 0, &y, receiver.memory.store, sizeof receiver.memory.store));
+    g = page(1, 0, 0, 4, 2);
+    g.name = NULL;
+    show("no name", take_page(0, g));
+    g.name = out;
+    show("a name in the output", take_page(0, g));
+    g.name = receiver.memory.names.row[0];
+    show("a name in the receiver", take_page(0, g));
+    g = page(1, 0, 0, 4, 2);
+    show("output in the universes",
+        tamburelvi_receiver_handle_universe_discovery_packet(r, 0, &g, (const uint8_t *)list, sizeof list));
+    g.universes = NULL;
+    show("no universes", take_page(0, g));
+    g.universes = receiver.memory.universes;
+    show("universes in the receiver", take_page(0, g));
+    g = page(1, 0, 0, 4, 2);
+    g.name = (const uint8_t *)list;
+    show("a name in the universes", take_page(0, g));
+    show("no output of a discovery packet",
+        tamburelvi_receiver_handle_universe_discovery_packet(r, 0, &g, NULL, sizeof out));
+    show("no list", tamburelvi_receiver_listen_universes(r, NULL, 1));
+    show("a list in the receiver", tamburelvi_receiver_listen_universes(r, receiver.memory.heard.universe, 1));
+    printf("read-outs to nowhere: %d %d %d %d %d %d %d %d %d\n", tamburelvi_receiver_data_pair(r, 0, NULL),
+        tamburelvi_receiver_sync_pair(r, 0, NULL), tamburelvi_receiver_data_source(r, 0, NULL),
+        tamburelvi_receiver_sync_source(r, 0, NULL), tamburelvi_receiver_listened(r, 0, NULL),
+        tamburelvi_receiver_waiting(r, 0, NULL), tamburelvi_receiver_source_at(r, TAMBURELVI_LISTED, 0, NULL),
+        tamburelvi_receiver_page_at(r, NULL, 0, NULL), tamburelvi_receiver_page_at(r, &source, 0, NULL));
+    show_pairs();
+    show_listened();
+    show_waiting();
+    show_sources();
+}
+
+/* 'Further calls': all are tested for 2 before any is added; muting gives 2, then 3. */
+static void listening(void) {
+    const uint16_t some[] = {7, 1}, illegal[] = {9, 64000, 3, 0};
+    show_listened();
+    show("listen to 7, 1", tamburelvi_receiver_listen_universes(r, some, 2));
+    show("listen to 9, 64000, 3, 0", tamburelvi_receiver_listen_universes(r, illegal, 4));
+    show("listen to nothing", tamburelvi_receiver_listen_universes(r, NULL, 0));
+    show_listened();
+    show("mute 5", tamburelvi_receiver_mute_universe(r, 5));
+    show("mute 0", tamburelvi_receiver_mute_universe(r, 0));
+    show("mute 64214", tamburelvi_receiver_mute_universe(r, 64214));
+    show_listened();
+    printf("listening to 1: %d, to 64214: %d\n", tamburelvi_receiver_is_listening(r, 1),
+        tamburelvi_receiver_is_listening(r, 64214));
+}
+
+/* Step 3 without an address; 'Trial values', the last; 7 by arriving minus last; 1 and 15 before the poll. */
+static void unsynchronised(void) {
+    tamburelvi_data_packet d = data(0x11, 1, 0, 0, 2);
+    values[1] = 255;
+    show_release("data", take(1000, d));
+    for (size_t i = 0; i < 37; i++) printf("%02x%s", out[i], i == 36 ? "\n" : " ");
+    show("the same again", take(1023, d));
+    d.sequence = 247; /* 247 - 0 = -9 */
+    show("sequence 247", take(1023, d));
+    d.sequence = 1;
+    show("output of 35,071", tamburelvi_receiver_handle_data_packet(r, 1023, &d, out, TAMBURELVI_OUTPUT - 1));
+    d.values_length = TAMBURELVI_VALUES + 1;
+    show("514 values", take(1023, d));
+    d.values_length = 2;
+    d.preview = true;
+    show("preview, not wanted", take(1023, d));
+    show("preview wanted", tamburelvi_receiver_set_process_preview_data(r, true));
+    show_release("preview", take(1023, d));
+    d = data(0x11, 1, 0, 2, 0);
+    d.values = NULL;
+    show_release("no values, by their length", take(1050, d));
+    show("universe 2, not listened to", take(1050, data(0x11, 2, 0, 3, 2)));
+    show_pairs();
+    show("reset", tamburelvi_receiver_reset_sources(r));
+}
+
+/* Step 3 with an address, step 4; 'Merging': the larger value at each place, the longer tail, no CID, the earlier reading. */
+static void synchronised(void) {
+    show("merge by highest value", tamburelvi_receiver_set_merge(r, TAMBURELVI_HTP_DMX_MERGE));
+    values[1] = 10;
+    show("A under 7", take(1100, data(0x30, 1, 7, 3, 2)));
+    show_waiting();
+    values[1] = 5;
+    values[2] = 6;
+    show("B under 7", take(1150, data(0x40, 1, 7, 0, 3)));
+    show_waiting();
+    show("synchronisation, output of 100", take_sync(1200, 0x30, 7, 0, 100));
+    show_release("synchronisation", take_sync(1200, 0x30, 7, 0, sizeof out));
+    show("the same again", take_sync(1200, 0x30, 7, 0, sizeof out));
+    show("the next", take_sync(1250, 0x30, 7, 1, sizeof out));
+    show("address 99, not listened to", take_sync(1250, 0x30, 99, 0, sizeof out));
+    show_waiting();
+    show_pairs();
+}
+
+/* 8: an empty list is not merged, and both are lost; 2 in a step: the stored sequence stands. */
+static void refused(void) {
+    show("no values under 7", take(1300, data(0x30, 1, 7, 4, 0)));
+    show("two values under 7", take(1300, data(0x30, 1, 7, 5, 2)));
+    show_waiting();
+    show("clear 1, which has none", tamburelvi_receiver_clear_waiting_data(r, 1));
+    show("two values under 7", take(1300, data(0x30, 1, 7, 6, 2)));
+    show("clear 1", tamburelvi_receiver_clear_waiting_data(r, 1));
+    show("two values under 7", take(1300, data(0x30, 1, 7, 7, 2)));
+    show("clear all", tamburelvi_receiver_clear_all_waiting_data(r));
+    show_waiting();
+    show("address 64000", take(1300, data(0x30, 1, 64000, 8, 2)));
+    show("the same again", take(1300, data(0x30, 1, 64000, 8, 2)));
+}
+
+/* Terminated: drop the pair; then 5 if announced, else nothing. The sync pair of address 7 is another pair. */
+static void terminated(void) {
+    tamburelvi_data_packet d = data(0x30, 1, 0, 8, 0);
+    d.terminated = true;
+    show("announce terminations", tamburelvi_receiver_set_announce_stream_termination(r, true));
+    show("A ends 1", take(1300, d));
+    show("do not", tamburelvi_receiver_set_announce_stream_termination(r, false));
+    fill(d.cid, 0x40);
+    show("B ends 1", take(1300, d));
+    show_pairs();
+}
+
+/* 'Trial values': limit 1, A known: B gets 6 with count 1. */
+static void limit(void) {
+    show("limit 0", tamburelvi_receiver_set_source_limit(r, 0));
+    show_settings();
+    show("limit 1", tamburelvi_receiver_set_source_limit(r, 1));
+    show_settings();
+    show("A", take(1400, data(0x30, 1, 0, 0, 2)));
+    show("B", take(1400, data(0x40, 1, 0, 0, 2)));
+    show("no limit", tamburelvi_receiver_clear_source_limit(r));
+    show("B", take(1400, data(0x40, 1, 0, 0, 2)));
+    show("fresh settings", tamburelvi_receiver_fresh_settings(r));
+    show_settings();
+}
+
+/* Age 2,499 is live, 2,500 expired; the data table is swept before the sync table; the packet of a step that gave 4 was not
+ * taken. */
+static void timeouts(void) {
+    show("reset", tamburelvi_receiver_reset_sources(r));
+    show_pairs();
+    show("announce timeouts", tamburelvi_receiver_set_announce_timeout(r, true));
+    show("A at 10,000", take(10000, data(0x30, 1, 0, 0, 2)));
+    show("poll at 12,499", tamburelvi_receiver_poll(r, 12499));
+    show("poll at 12,500", tamburelvi_receiver_poll(r, 12500));
+    show("poll again", tamburelvi_receiver_poll(r, 12500));
+    show("A at 15,000", take(15000, data(0x30, 1, 0, 0, 2)));
+    show("B at 17,500", take(17500, data(0x40, 1, 0, 0, 2)));
+    show("B again", take(17500, data(0x40, 1, 0, 0, 2)));
+    show("synchronisation of A at 17,510", take_sync(17510, 0x30, 7, 0, sizeof out));
+    show("a page of A at 20,000", take_page(20000, page(0x30, 0, 0, 4, 1)));
+    show("synchronisation of B at 20,010", take_sync(20010, 0x40, 7, 0, sizeof out));
+    show("synchronisation of B again", take_sync(20010, 0x40, 7, 0, sizeof out));
+    show("A at 20,020", take(20020, data(0x30, 1, 0, 0, 2)));
+    show("poll at 22,510", tamburelvi_receiver_poll(r, 22510));
+    show("poll at 22,520", tamburelvi_receiver_poll(r, 22520));
+    show("A at 22,520", take(22520, data(0x30, 1, 0, 0, 2)));
+    show("do not", tamburelvi_receiver_set_announce_timeout(r, false));
+    show("poll at 25,020", tamburelvi_receiver_poll(r, 25020));
+    show_pairs();
+}
+
+/* 'Discovery'; the name is tested before the list; a termination drops the universe from the listed source's pages. */
+static void discovery(void) {
+    tamburelvi_discovery_packet g;
+    tamburelvi_data_packet d;
+    memcpy(name, "desk", 4);
+    list[0] = 1;
+    list[1] = 2;
+    show("announce discoveries", tamburelvi_receiver_set_announce_source_discovery(r, true));
+    show("A, page 0 of 0", take_page(30000, page(0x30, 0, 0, 4, 2)));
+    memcpy(name, "rack", 4);
+    show("B, page 1 of 1", take_page(30001, page(0x40, 1, 1, 4, 1)));
+    show_sources();
+    g = page(0x40, 0, 1, 0, 0);
+    g.name = NULL;
+    g.universes = NULL;
+    show("B, page 0 of 1", take_page(30002, g));
+    show("C, page 0 of 1", take_page(30002, page(0x50, 0, 1, 4, 1)));
+    show("a name of 64", take_page(30002, page(0x40, 0, 0, TAMBURELVI_NAME + 1, 1)));
+    show("a list of 513", take_page(30002, page(0x40, 0, 0, 4, TAMBURELVI_PAGE + 1)));
+    show("both", take_page(30002, page(0x40, 0, 0, TAMBURELVI_NAME + 1, TAMBURELVI_PAGE + 1)));
+    g = page(0x40, 0, 0, 4, 1);
+    show("no output, by its length", tamburelvi_receiver_handle_universe_discovery_packet(r, 30002, &g, NULL, 0));
+    d = data(0x30, 2, 0, 0, 0);
+    d.terminated = true;
+    show("A ends 2", take(30002, d));
+    show_sources();
+    show("discovery sweep at 32,499", tamburelvi_receiver_remove_expired_sources(r, 32499));
+    show("discovery sweep at 32,501", tamburelvi_receiver_remove_expired_sources(r, 32501));
+    show_sources();
+    show("discovery sweep at 32,502", tamburelvi_receiver_remove_expired_sources(r, 32502));
+    show_sources();
+}
+
+/* 1,024 pairs, 1,024 universes, 64 waiting, 64 pages, each and one more. */
+static void full(void) {
+    tamburelvi_data_packet d = data(0, 1, 0, 0, 2);
+    unsigned taken = 0;
+    show("fresh settings", tamburelvi_receiver_fresh_settings(r));
+    show("reset", tamburelvi_receiver_reset_sources(r));
+    for (unsigned i = 0; i < 1024; i++) {
+        d.cid[0] = (uint8_t)(i >> 8);
+        d.cid[15] = (uint8_t)(i & 255);
+        taken += take(40000, d).number == TAMBURELVI_OK;
+    }
+    d.cid[0] = 255;
+    printf("%u sources taken\n", taken);
+    show("one more", take(40000, d));
+    show("reset", tamburelvi_receiver_reset_sources(r));
+    for (unsigned i = 0; i < 1100; i++) list[i] = (uint16_t)(i + 1);
+    show("listen to 1 to 1,025", tamburelvi_receiver_listen_universes(r, list, 1025));
+    show("listen to 1 to 1,024", tamburelvi_receiver_listen_universes(r, list, 1024));
+    show("listen to 1,025", tamburelvi_receiver_listen_universes(r, list + 1024, 1));
+    show("address 1,025", take(40000, data(0x11, 1, 1025, 0, 2)));
+    taken = 0;
+    for (uint16_t u = 1; u <= 64; u++) taken += take(40000, data(0x11, u, 7, 1, 2)).number == TAMBURELVI_OK;
+    printf("%u universes wait\n", taken);
+    show("one more", take(40000, data(0x11, 65, 7, 1, 2)));
+    taken = 0;
+    for (uint8_t i = 1; i <= 64; i++) taken += take_page(40000, page(i, 0, 0, 4, 512)).number == TAMBURELVI_OK;
+    printf("%u pages taken\n", taken);
+    show("one more", take_page(40000, page(65, 0, 0, 4, 1)));
+}
+
+/* Each store's length through the library's own functions, output before waiting values before pages; then what every
+ * read-out gives past the last place. */
+static void library(void) {
+    tamburelvi_memory *m = &receiver.memory;
+    const tamburelvi_memory *c = &receiver.memory;
+    const tamburelvi_settings s = tamburelvi_fresh_settings();
+    tamburelvi_header h;
+    tamburelvi_data d;
+    tamburelvi_sync y;
+    tamburelvi_page g;
+    tamburelvi_pair_read p;
+    tamburelvi_source_read source;
+    tamburelvi_page_read source_page;
+    memset(&d, 0, sizeof d);
+    memset(&y, 0, sizeof y);
+    memset(&g, 0, sizeof g);
+    d.universe = 1;
+    h = tamburelvi_new(&m->heard);
+    h = tamburelvi_listen_universes(h, &m->heard, list, 1).header;
+    show("handle_data_packet, all short",
+        tamburelvi_handle_data_packet(h, &m->data_pairs, &m->data_sources, &m->sync_pairs, &m->sync_sources, &m->rows, m->store,
+            TAMBURELVI_STORE - 1, &m->heard, &c->sources, &c->names, &m->pages, m->universes, TAMBURELVI_UNIVERSES - 1, s, 0, d,
+            values, 514, out, TAMBURELVI_OUTPUT - 1).answer);
+    show("handle_data_packet, stores short",
+        tamburelvi_handle_data_packet(h, &m->data_pairs, &m->data_sources, &m->sync_pairs, &m->sync_sources, &m->rows, m->store,
+            TAMBURELVI_STORE - 1, &m->heard, &c->sources, &c->names, &m->pages, m->universes, TAMBURELVI_UNIVERSES - 1, s, 0, d,
+            values, 514, out, TAMBURELVI_OUTPUT).answer);
+    show("handle_sync_packet, pages short",
+        tamburelvi_handle_sync_packet(h, &m->data_pairs, &m->data_sources, &m->sync_pairs, &m->sync_sources, &m->rows, m->store,
+            TAMBURELVI_STORE, &c->heard, &c->sources, &c->names, &c->pages, c->universes, TAMBURELVI_UNIVERSES - 1, s, 0, y, out,
+            TAMBURELVI_OUTPUT).answer);
+    show("handle_universe_discovery_packet, pages short",
+        tamburelvi_handle_universe_discovery_packet(h, &m->data_pairs, &m->data_sources, &m->sync_pairs, &m->sync_sources,
+            &m->rows, m->store, TAMBURELVI_STORE, &c->heard, &m->sources, &m->names, &m->pages, m->universes,
+            TAMBURELVI_UNIVERSES - 1, s, 0, g, name, 4, list, 1, out, TAMBURELVI_OUTPUT).answer);
+    show("poll, store short",
+        tamburelvi_poll(h, &m->data_pairs, &m->data_sources, &m->sync_pairs, &m->sync_sources, &m->rows, m->store,
+            TAMBURELVI_STORE - 1, s, 0).answer);
+    show("remove_expired_sources, pages short",
+        tamburelvi_remove_expired_sources(h, &m->sources, &m->names, &m->pages, m->universes, TAMBURELVI_UNIVERSES - 1, 0).answer);
+    show("clear_waiting_data, store short",
+        tamburelvi_clear_waiting_data(h, &m->rows, m->store, TAMBURELVI_STORE - 1, 1).answer);
+    h = tamburelvi_mute_universe(h, &m->heard, 1).header;
+    h = tamburelvi_clear_all_waiting_data(h);
+    h = tamburelvi_reset_sources(h);
+    printf("listening to 1: %d, to 64214: %d\n", tamburelvi_is_listening(h, &c->heard, 1),
+        tamburelvi_is_listening(h, &c->heard, 64214));
+    p = tamburelvi_data_pair(h, &c->data_pairs, 0);
+    printf("past the last: %llu %llu %d", (unsigned long long)p.hi, (unsigned long long)p.reading, p.universe);
+    p = tamburelvi_sync_pair(h, &c->sync_pairs, 1024);
+    printf(" %llu %d", (unsigned long long)p.lo, p.sequence);
+    printf(" %llu", (unsigned long long)tamburelvi_data_source(h, &c->data_sources, 0).hi);
+    printf(" %llu", (unsigned long long)tamburelvi_sync_source(h, &c->sync_sources, 0).lo);
+    printf(" %d", tamburelvi_listened(h, &c->heard, 1));
+    printf(" %d %zu", tamburelvi_waiting(h, &c->rows, 0).universe, tamburelvi_waiting_values(h, &c->rows, 0).count);
+    source = tamburelvi_source_at(h, &c->sources, TAMBURELVI_LISTED, 0);
+    source_page = tamburelvi_page_at(h, &c->pages, TAMBURELVI_LISTED, 0, 0, 0);
+    printf(" %zu %zu\n", h.sources - source.place, h.pages - source_page.place);
+}
+
+/* ---- the reader of records on bytes that are no release ---- */
+
+/* Reads a copy that is no longer than `length`, so that a read past it is found by a sanitizer. */
+static void read_copy(const char *what, const uint8_t *bytes, size_t length, size_t records, size_t said) {
+    tamburelvi_answer a;
+    tamburelvi_records reader;
+    tamburelvi_record record;
+    uint8_t *copy = (uint8_t *)malloc(length ? length : 1);
+    if (!copy) exit(1);
+    if (length) memcpy(copy, bytes, length);
+    memset(&a, 0, sizeof a);
+    a.values = TAMBURELVI_RELEASE;
+    a.first = records;
+    a.second = said;
+    reader = tamburelvi_records_of(a, copy, length);
+    printf("%s:", what);
+    for (int i = 0; i < 3; i++) printf(" %d", (int)tamburelvi_records_next(&reader, &record));
+    printf("\n");
+    free(copy);
+}
+
+static void changed(const char *what, const uint8_t *bytes, size_t length, size_t place, uint8_t value) {
+    uint8_t copy[40];
+    memcpy(copy, bytes, length);
+    copy[place] = value;
+    read_copy(what, copy, length, 1, length);
+}
+
+static void malformed(void) {
+    uint8_t bytes[37];
+    tamburelvi_answer a;
+    tamburelvi_records reader;
+    tamburelvi_record record;
+    tamburelvi_receiver_new(r);
+    tamburelvi_receiver_listen_universes(r, list, 1);
+    show("data", a = take(50000, data(0x11, 1, 0, 0, 2)));
+    memcpy(bytes, out, sizeof bytes);
+    reader = tamburelvi_records_of(a, out, sizeof out);
+    out[0] = 0;
+    printf("changed: %d", (int)tamburelvi_records_next(&reader, &record));
+    out[0] = bytes[0];
+    printf(", changed back: %d\n", (int)tamburelvi_records_next(&reader, &record));
+    read_copy("as it is", bytes, 37, 1, 37);
+    read_copy("cut in the values", bytes, 36, 1, 36);
+    read_copy("cut in the head", bytes, 34, 1, 34);
+    read_copy("cut to nothing", bytes, 0, 1, 0);
+    read_copy("said longer than the output", bytes, 36, 1, 37);
+    read_copy("one record more", bytes, 37, 2, 37);
+    read_copy("one record less", bytes, 37, 0, 37);
+    read_copy("nothing", bytes, 0, 0, 0);
+    changed("first byte of the mark", bytes, 37, 0, 0x54);
+    changed("second byte of the mark", bytes, 37, 1, 0x45);
+    changed("preview 2", bytes, 37, 7, 2);
+    changed("CID present 2", bytes, 37, 8, 2);
+    changed("no CID, with bytes", bytes, 37, 8, 0);
+    changed("258 values", bytes, 37, 33, 1);
+    memset(out + 35, 0, 600);
+    out[33] = 2;
+    out[34] = 2;
+    read_copy("514 values", out, 35 + 514, 1, 35 + 514);
+    out[34] = 1;
+    read_copy("513 values", out, 35 + 513, 1, 35 + 513);
+    reader = tamburelvi_records_of(a, NULL, sizeof out);
+    printf("no output: %d\n", (int)tamburelvi_records_next(&reader, &record));
+    a.number = TAMBURELVI_OUT_OF_SEQUENCE;
+    reader = tamburelvi_records_of(a, out, sizeof out);
+    printf("a stopped call: %d\n", (int)tamburelvi_records_next(&reader, &record));
+    printf("to nowhere: %d %d\n", (int)tamburelvi_records_next(NULL, &record), (int)tamburelvi_records_next(&reader, NULL));
+}
+
+int main(void) {
+    printf("-- words\n");
+    words();
+    printf("-- calls that are not made\n");
+    show("new, null", tamburelvi_receiver_new(NULL));
+    unmade("null", NULL);
+    unmade("not started", r);
+    show("new", tamburelvi_receiver_new(r));
+    show_settings();
+    unmade_packets();
+    printf("-- listening\n");
+    listening();
+    printf("-- unsynchronised\n");
+    unsynchronised();
+    printf("-- synchronised\n");
+    synchronised();
+    printf("-- refused\n");
+    refused();
+    printf("-- terminated\n");
+    terminated();
+    printf("-- limit\n");
+    limit();
+    printf("-- timeouts\n");
+    timeouts();
+    printf("-- discovery\n");
+    discovery();
+    printf("-- full tables\n");
+    full();
+    printf("-- the library's functions\n");
+    library();
+    printf("-- malformed releases\n");
+    malformed();
+    return 0;
+}
