@@ -6,7 +6,8 @@
 #include <stdlib.h>
 #include <string.h>
 
-static tamburelvi t, before;
+static tamburelvi_memory t, before;
+static tamburelvi_header h, first;
 static uint8_t out[TAMBURELVI_OUTPUT];
 static int tried, wrong;
 
@@ -19,10 +20,9 @@ static bool same_header(const tamburelvi_header *p, const tamburelvi_header *q) 
 
 static void is_15(const char *what, tamburelvi_reply r, size_t needed) {
     tried++;
-    t.header = r.header;
-    size_t from = offsetof(tamburelvi, data_pairs);
-    bool as_said = r.answer.number == 15 && r.answer.values == TAMBURELVI_ONE && r.answer.first == needed && same_header(&t.header, &before.header) &&
-        !memcmp((char *)&t + from, (char *)&before + from, sizeof t - from);
+    h = r.header;
+    bool as_said = r.answer.number == 15 && r.answer.values == TAMBURELVI_ONE && r.answer.first == needed && same_header(&h, &first) &&
+        !memcmp(&t, &before, sizeof t);
     if (!as_said) printf("WRONG: %s: %u %lu\n", what, r.answer.number, (unsigned long)r.answer.first), wrong++;
 }
 
@@ -36,11 +36,7 @@ void tamburelvi_panicked(void) {
 }
 #endif
 
-#define TABLES t.header, &t.data_pairs, &t.data_sources, &t.sync_pairs, &t.sync_sources, &t.rows, t.store
-#define HEARD (const uint16_t(*)[1024]) & t.heard
-#define SOURCES (const uint64_t(*)[64][6]) & t.sources
-#define NAMES (const uint8_t(*)[64][63]) & t.names
-#define PAGES (const uint64_t(*)[64][5]) & t.pages
+#define TABLES h, &t.data_pairs, &t.data_sources, &t.sync_pairs, &t.sync_sources, &t.rows, t.store
 
 int edges(void) {
     tamburelvi_settings s = tamburelvi_fresh_settings();
@@ -50,31 +46,32 @@ int edges(void) {
     static const uint8_t values[4] = {0, 1, 2, 3};
     static const uint16_t one[1] = {1};
     const size_t store = TAMBURELVI_STORE, pool = TAMBURELVI_UNIVERSES, room = TAMBURELVI_OUTPUT;
-    tamburelvi_start(&t);
-    tamburelvi_listen(&t, one, 1);
+    h = tamburelvi_new(&t.heard);
+    h = tamburelvi_listen_universes(h, &t.heard, one, 1).header;
+    first = h;
     memcpy(&before, &t, sizeof t);
     const size_t shorter[] = {1, 2, 1000, 32768};
     for (int i = 0; i < 4; i++) {
         size_t n = shorter[i];
-        is_15("data, output", tamburelvi_handle_data_packet(TABLES, store, &t.heard, SOURCES, NAMES, &t.pages, t.universes, pool, s, 0, d, values, 4, out, room - n), room);
-        is_15("data, store", tamburelvi_handle_data_packet(TABLES, store - n, &t.heard, SOURCES, NAMES, &t.pages, t.universes, pool, s, 0, d, values, 4, out, room), store);
-        is_15("data, universes", tamburelvi_handle_data_packet(TABLES, store, &t.heard, SOURCES, NAMES, &t.pages, t.universes, pool - n, s, 0, d, values, 4, out, room), 2 * pool);
-        is_15("sync, output", tamburelvi_handle_sync_packet(TABLES, store, HEARD, SOURCES, NAMES, PAGES, t.universes, pool, s, 0, y, out, room - n), room);
-        is_15("sync, store", tamburelvi_handle_sync_packet(TABLES, store - n, HEARD, SOURCES, NAMES, PAGES, t.universes, pool, s, 0, y, out, room), store);
-        is_15("sync, universes", tamburelvi_handle_sync_packet(TABLES, store, HEARD, SOURCES, NAMES, PAGES, t.universes, pool - n, s, 0, y, out, room), 2 * pool);
-        is_15("discovery, output", tamburelvi_handle_universe_discovery_packet(TABLES, store, HEARD, &t.sources, &t.names, &t.pages, t.universes, pool, s, 0, g, values, 4, one, 1, out, room - n), room);
-        is_15("discovery, store", tamburelvi_handle_universe_discovery_packet(TABLES, store - n, HEARD, &t.sources, &t.names, &t.pages, t.universes, pool, s, 0, g, values, 4, one, 1, out, room), store);
-        is_15("discovery, universes", tamburelvi_handle_universe_discovery_packet(TABLES, store, HEARD, &t.sources, &t.names, &t.pages, t.universes, pool - n, s, 0, g, values, 4, one, 1, out, room), 2 * pool);
+        is_15("data, output", tamburelvi_handle_data_packet(TABLES, store, &t.heard, &t.sources, &t.names, &t.pages, t.universes, pool, s, 0, d, values, 4, out, room - n), room);
+        is_15("data, store", tamburelvi_handle_data_packet(TABLES, store - n, &t.heard, &t.sources, &t.names, &t.pages, t.universes, pool, s, 0, d, values, 4, out, room), store);
+        is_15("data, universes", tamburelvi_handle_data_packet(TABLES, store, &t.heard, &t.sources, &t.names, &t.pages, t.universes, pool - n, s, 0, d, values, 4, out, room), 2 * pool);
+        is_15("sync, output", tamburelvi_handle_sync_packet(TABLES, store, &t.heard, &t.sources, &t.names, &t.pages, t.universes, pool, s, 0, y, out, room - n), room);
+        is_15("sync, store", tamburelvi_handle_sync_packet(TABLES, store - n, &t.heard, &t.sources, &t.names, &t.pages, t.universes, pool, s, 0, y, out, room), store);
+        is_15("sync, universes", tamburelvi_handle_sync_packet(TABLES, store, &t.heard, &t.sources, &t.names, &t.pages, t.universes, pool - n, s, 0, y, out, room), 2 * pool);
+        is_15("discovery, output", tamburelvi_handle_universe_discovery_packet(TABLES, store, &t.heard, &t.sources, &t.names, &t.pages, t.universes, pool, s, 0, g, values, 4, one, 1, out, room - n), room);
+        is_15("discovery, store", tamburelvi_handle_universe_discovery_packet(TABLES, store - n, &t.heard, &t.sources, &t.names, &t.pages, t.universes, pool, s, 0, g, values, 4, one, 1, out, room), store);
+        is_15("discovery, universes", tamburelvi_handle_universe_discovery_packet(TABLES, store, &t.heard, &t.sources, &t.names, &t.pages, t.universes, pool - n, s, 0, g, values, 4, one, 1, out, room), 2 * pool);
         is_15("poll, store", tamburelvi_poll(TABLES, store - n, s, 0), store);
-        is_15("sweep, universes", tamburelvi_remove_expired_sources(t.header, &t.sources, &t.names, &t.pages, t.universes, pool - n, 0), 2 * pool);
-        is_15("clear, store", tamburelvi_clear_waiting_data(t.header, &t.rows, t.store, store - n, 1), store);
+        is_15("sweep, universes", tamburelvi_remove_expired_sources(h, &t.sources, &t.names, &t.pages, t.universes, pool - n, 0), 2 * pool);
+        is_15("clear, store", tamburelvi_clear_waiting_data(h, &t.rows, t.store, store - n, 1), store);
     }
     printf("%d calls with a length that is too short, %d not 15\n", tried, wrong);
 #ifdef HOOK
     fflush(stdout);
     expected = true;
-    t.header.data_pairs = 5000;
-    tamburelvi_handle_data_packet(TABLES, store, &t.heard, SOURCES, NAMES, &t.pages, t.universes, pool, s, 0, d, values, 4, out, room);
+    h.data_pairs = 5000;
+    tamburelvi_handle_data_packet(TABLES, store, &t.heard, &t.sources, &t.names, &t.pages, t.universes, pool, s, 0, d, values, 4, out, room);
     puts("WRONG: a header past the tables went unnoticed");
     return 1;
 #endif

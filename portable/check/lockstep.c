@@ -27,10 +27,13 @@ enum { EACH(NAME) functions };
 static const char *const names[] = {EACH(TEXT)};
 static unsigned long called[functions], calls, reached[256], records;
 
-static tamburelvi a, b;
+static struct side {
+    tamburelvi_header header;
+    tamburelvi_memory memory;
+} a, b;
 static uint8_t out_a[TAMBURELVI_OUTPUT + 64], out_b[TAMBURELVI_OUTPUT + 64];
-#define LENT (sizeof(tamburelvi) - offsetof(tamburelvi, data_pairs))
-static char *const lent_a = (char *)&a.data_pairs, *const lent_b = (char *)&b.data_pairs;
+#define LENT sizeof(tamburelvi_memory)
+static char *const lent_a = (char *)&a.memory, *const lent_b = (char *)&b.memory;
 static uint64_t state = 88172645463325252u;
 
 static uint64_t below(uint64_t n) {
@@ -86,13 +89,12 @@ static void same_reply(tamburelvi_reply p, tamburelvi_reply q) {
 
 /* The same call on both. */
 #define COUNT(f) called[f##_called]++, calls++
-#define REPLY(f, ...) do { COUNT(f); tamburelvi *t = &a; uint8_t *out = out_a; tamburelvi_reply p_ = tamburelvi_##f(t->header, __VA_ARGS__); \
-        t = &b, out = out_b; tamburelvi_reply q_ = OTHER(f)(t->header, __VA_ARGS__); (void)out; same_reply(p_, q_); } while (0)
+#define REPLY(f, ...) do { COUNT(f); struct side *x = &a; tamburelvi_memory *t = &x->memory; uint8_t *out = out_a; tamburelvi_reply p_ = tamburelvi_##f(x->header, __VA_ARGS__); \
+        x = &b, t = &x->memory, out = out_b; tamburelvi_reply q_ = OTHER(f)(x->header, __VA_ARGS__); (void)out; same_reply(p_, q_); } while (0)
 #define HEADER(f) do { COUNT(f); a.header = tamburelvi_##f(a.header), b.header = OTHER(f)(b.header); } while (0)
 #define SETTINGS(f, ...) do { COUNT(f); tamburelvi_settings p_ = tamburelvi_##f(__VA_ARGS__), q_ = OTHER(f)(__VA_ARGS__); same_settings(p_, q_); s = p_; } while (0)
-#define READ(f, type, ...) COUNT(f); tamburelvi *t = &a; type p = tamburelvi_##f(t->header, __VA_ARGS__); t = &b; type q = OTHER(f)(t->header, __VA_ARGS__)
+#define READ(f, type, ...) COUNT(f); tamburelvi_memory *t = &a.memory; type p = tamburelvi_##f(a.header, __VA_ARGS__); t = &b.memory; type q = OTHER(f)(b.header, __VA_ARGS__)
 #define TABLES &t->data_pairs, &t->data_sources, &t->sync_pairs, &t->sync_sources, &t->rows, t->store, store
-#define CONST(type, size, of) (const type(*) size)&t->of
 
 static tamburelvi_settings s;
 
@@ -120,18 +122,18 @@ static void settings(void) {
 static void reads(void) {
     size_t at = one_in(2) ? below(70) : below(1100);
     uint64_t mark = below(3);
-    { READ(data_pair, tamburelvi_pair_read, CONST(uint64_t, [1024][4], data_pairs), at); SAME(p, q, hi); SAME(p, q, lo); SAME(p, q, reading); SAME(p, q, universe); SAME(p, q, sequence); }
-    { READ(sync_pair, tamburelvi_pair_read, CONST(uint64_t, [1024][4], sync_pairs), at); SAME(p, q, hi); SAME(p, q, lo); SAME(p, q, reading); SAME(p, q, universe); SAME(p, q, sequence); }
-    { READ(data_source, tamburelvi_cid_read, CONST(uint64_t, [1024][2], data_sources), at); SAME(p, q, hi); SAME(p, q, lo); }
-    { READ(sync_source, tamburelvi_cid_read, CONST(uint64_t, [1024][2], sync_sources), at); SAME(p, q, hi); SAME(p, q, lo); }
-    { READ(listened, uint16_t, CONST(uint16_t, [1024], heard), at); if (p != q) differ("listened"); add(p); }
-    { READ(waiting, tamburelvi_dmx_read, CONST(uint64_t, [64][9], rows), at); SAME(p, q, hi); SAME(p, q, lo); SAME(p, q, reading); SAME(p, q, universe); SAME(p, q, address); SAME(p, q, priority); SAME(p, q, preview); SAME(p, q, has_cid); }
-    { READ(waiting_values, tamburelvi_part_read, CONST(uint64_t, [64][9], rows), at); SAME(p, q, start); SAME(p, q, count); }
-    READ(source_at, tamburelvi_source_read, CONST(uint64_t, [64][6], sources), mark, at);
+    { READ(data_pair, tamburelvi_pair_read, &t->data_pairs, at); SAME(p, q, hi); SAME(p, q, lo); SAME(p, q, reading); SAME(p, q, universe); SAME(p, q, sequence); }
+    { READ(sync_pair, tamburelvi_pair_read, &t->sync_pairs, at); SAME(p, q, hi); SAME(p, q, lo); SAME(p, q, reading); SAME(p, q, universe); SAME(p, q, sequence); }
+    { READ(data_source, tamburelvi_cid_read, &t->data_sources, at); SAME(p, q, hi); SAME(p, q, lo); }
+    { READ(sync_source, tamburelvi_cid_read, &t->sync_sources, at); SAME(p, q, hi); SAME(p, q, lo); }
+    { READ(listened, uint16_t, &t->heard, at); if (p != q) differ("listened"); add(p); }
+    { READ(waiting, tamburelvi_dmx_read, &t->rows, at); SAME(p, q, hi); SAME(p, q, lo); SAME(p, q, reading); SAME(p, q, universe); SAME(p, q, address); SAME(p, q, priority); SAME(p, q, preview); SAME(p, q, has_cid); }
+    { READ(waiting_values, tamburelvi_part_read, &t->rows, at); SAME(p, q, start); SAME(p, q, count); }
+    READ(source_at, tamburelvi_source_read, &t->sources, mark, at);
     SAME(p, q, hi); SAME(p, q, lo); SAME(p, q, reading); SAME(p, q, last_page); SAME(p, q, name_length); SAME(p, q, place);
     uint64_t hi = p.hi, lo = p.lo;
     at = below(4);
-    { READ(page_at, tamburelvi_page_read, CONST(uint64_t, [64][5], pages), mark, hi, lo, at); SAME(p, q, number); SAME(p, q, count); SAME(p, q, start); SAME(p, q, place); }
+    { READ(page_at, tamburelvi_page_read, &t->pages, mark, hi, lo, at); SAME(p, q, number); SAME(p, q, count); SAME(p, q, start); SAME(p, q, place); }
 }
 
 int main(int argc, char **argv) {
@@ -144,7 +146,7 @@ int main(int argc, char **argv) {
         for (size_t i = 0; i < LENT; i++) lent_a[i] = (char)below(256);
         memcpy(lent_b, lent_a, LENT);
         COUNT(new);
-        a.header = tamburelvi_new(&a.heard), b.header = OTHER(new)(&b.heard);
+        a.header = tamburelvi_new(&a.memory.heard), b.header = OTHER(new)(&b.memory.heard);
         same_memory();
         SETTINGS(fresh_settings, );
         for (int i = 0; i < 12; i++) settings();
@@ -173,13 +175,13 @@ int main(int argc, char **argv) {
                 bool preview = one_in(20), terminated = one_in(200), forced = one_in(6);
                 tamburelvi_data d = {.hi = hi, .lo = lo, .universe = u, .address = address, .priority = priority, .sequence = sequence, .preview = preview,
                     .terminated = terminated, .force_synchronization = forced};
-                REPLY(handle_data_packet, TABLES, &t->heard, CONST(uint64_t, [64][6], sources), CONST(uint8_t, [64][63], names), &t->pages, t->universes, pool, s, now, d, values, length, out, room);
+                REPLY(handle_data_packet, TABLES, &t->heard, &t->sources, &t->names, &t->pages, t->universes, pool, s, now, d, values, length, out, room);
                 break;
             }
             case 0: case 1: {
                 if (one_in(300)) address = 0;
                 tamburelvi_sync y = {.hi = hi, .lo = lo, .address = address, .sequence = sequence};
-                REPLY(handle_sync_packet, TABLES, CONST(uint16_t, [1024], heard), CONST(uint64_t, [64][6], sources), CONST(uint8_t, [64][63], names), CONST(uint64_t, [64][5], pages), t->universes, pool, s, now, y, out, room);
+                REPLY(handle_sync_packet, TABLES, &t->heard, &t->sources, &t->names, &t->pages, t->universes, pool, s, now, y, out, room);
                 break;
             }
             case 2: case 3: {
@@ -189,7 +191,7 @@ int main(int argc, char **argv) {
                 for (size_t i = 0; i < count; i++) list[i] = (uint16_t)(1 + below(universes));
                 uint64_t pages = last + 1u + one_in(9);
                 tamburelvi_page g = {.hi = hi, .lo = lo, .page = (uint8_t)below(pages), .last_page = last};
-                REPLY(handle_universe_discovery_packet, TABLES, CONST(uint16_t, [1024], heard), &t->sources, &t->names, &t->pages, t->universes, pool, s, now, g, name, length, list, count, out, room);
+                REPLY(handle_universe_discovery_packet, TABLES, &t->heard, &t->sources, &t->names, &t->pages, t->universes, pool, s, now, g, name, length, list, count, out, room);
                 break;
             }
             case 4:
@@ -207,7 +209,7 @@ int main(int argc, char **argv) {
                 case 5: if (one_in(30)) HEADER(clear_all_waiting_data); break;
                 case 6: if (one_in(30)) HEADER(reset_sources); break;
                 case 7: {
-                    READ(is_listening, bool, CONST(uint16_t, [1024], heard), u);
+                    READ(is_listening, bool, &t->heard, u);
                     if (p != q) differ("is_listening");
                     add(p);
                     break;

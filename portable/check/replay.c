@@ -5,7 +5,8 @@
 #include <string.h>
 
 #define LINE 8192
-static tamburelvi t;
+static tamburelvi_memory t;
+static tamburelvi_header h;
 static tamburelvi_settings s;
 static uint8_t out[TAMBURELVI_OUTPUT], bytes[LINE];
 static uint16_t numbers[LINE];
@@ -72,11 +73,17 @@ static bool read_bytes(const char *f, size_t *n) {
     return true;
 }
 
+static uint64_t word(const uint8_t *b) {
+    uint64_t w = 0;
+    for (int i = 0; i < 8; i++) w = w << 8 | b[i];
+    return w;
+}
+
 static bool read_cid(const char *f, uint64_t *hi, uint64_t *lo) {
     size_t n;
     if (strlen(f) != 32 || !read_bytes(f, &n)) return false;
-    *hi = tamburelvi_word(bytes);
-    *lo = tamburelvi_word(bytes + 8);
+    *hi = word(bytes);
+    *lo = word(bytes + 8);
     return true;
 }
 
@@ -113,20 +120,25 @@ static void answer(tamburelvi_answer a, const uint8_t *name, size_t name_length)
     putchar('\n');
 }
 
+static void reply(tamburelvi_reply r) {
+    h = r.header;
+    answer(r.answer, 0, 0);
+}
+
 static void said(uint64_t n) { put_number(n), putchar('\n'); }
 
 static void dump_pairs(char mark, bool sync) {
-    size_t n = sync ? t.header.sync_pairs : t.header.data_pairs, m = sync ? t.header.sync_sources : t.header.data_sources;
+    size_t n = sync ? h.sync_pairs : h.data_pairs, m = sync ? h.sync_sources : h.data_sources;
     for (size_t i = 0; i < n; i++) {
-        tamburelvi_pair_read p = sync ? tamburelvi_sync_pair(t.header, (const uint64_t (*)[1024][4])&t.sync_pairs, i)
-                                      : tamburelvi_data_pair(t.header, (const uint64_t (*)[1024][4])&t.data_pairs, i);
+        tamburelvi_pair_read p = sync ? tamburelvi_sync_pair(h, &t.sync_pairs, i)
+                                      : tamburelvi_data_pair(h, &t.data_pairs, i);
         putchar(mark), putchar(' '), put_cid(p.hi, p.lo), putchar(' '), put_number(p.universe), putchar(' '), put_number(p.sequence), putchar(' '), said(p.reading);
     }
     putchar(mark), fputs("c ", stdout);
     if (!m) putchar('-');
     for (size_t i = 0; i < m; i++) {
-        tamburelvi_cid_read c = sync ? tamburelvi_sync_source(t.header, (const uint64_t (*)[1024][2])&t.sync_sources, i)
-                                     : tamburelvi_data_source(t.header, (const uint64_t (*)[1024][2])&t.data_sources, i);
+        tamburelvi_cid_read c = sync ? tamburelvi_sync_source(h, &t.sync_sources, i)
+                                     : tamburelvi_data_source(h, &t.data_sources, i);
         if (i) putchar(',');
         put_cid(c.hi, c.lo);
     }
@@ -135,14 +147,14 @@ static void dump_pairs(char mark, bool sync) {
 
 static void dump_sources(char mark, uint64_t kind) {
     for (size_t i = 0;; i++) {
-        tamburelvi_source_read r = tamburelvi_source_at(t.header, (const uint64_t (*)[64][6])&t.sources, kind, i);
-        if (r.place >= t.header.sources) return;
+        tamburelvi_source_read r = tamburelvi_source_at(h, &t.sources, kind, i);
+        if (r.place >= h.sources) return;
         size_t n = 0;
-        while (tamburelvi_page_at(t.header, (const uint64_t (*)[64][5])&t.pages, kind, r.hi, r.lo, n).place < t.header.pages) n++;
-        putchar(mark), putchar(' '), put_cid(r.hi, r.lo), putchar(' '), hex(t.names[r.place], (size_t)r.name_length);
+        while (tamburelvi_page_at(h, &t.pages, kind, r.hi, r.lo, n).place < h.pages) n++;
+        putchar(mark), putchar(' '), put_cid(r.hi, r.lo), putchar(' '), hex(t.names.row[r.place], (size_t)r.name_length);
         putchar(' '), put_number(r.last_page), putchar(' '), put_number(r.reading), putchar(' '), said(n);
         for (size_t k = 0; k < n; k++) {
-            tamburelvi_page_read p = tamburelvi_page_at(t.header, (const uint64_t (*)[64][5])&t.pages, kind, r.hi, r.lo, k);
+            tamburelvi_page_read p = tamburelvi_page_at(h, &t.pages, kind, r.hi, r.lo, k);
             putchar(mark), fputs("p ", stdout), put_number(p.number), putchar(' '), put_list(t.universes + p.start, (size_t)p.count), putchar('\n');
         }
     }
@@ -150,24 +162,26 @@ static void dump_sources(char mark, uint64_t kind) {
 
 static void dump(void) {
     dump_pairs('d', false), dump_pairs('y', true);
-    for (size_t i = 0; i < t.header.waiting; i++) {
-        tamburelvi_dmx_read d = tamburelvi_waiting(t.header, (const uint64_t (*)[64][9])&t.rows, i);
-        tamburelvi_part_read v = tamburelvi_waiting_values(t.header, (const uint64_t (*)[64][9])&t.rows, i);
+    for (size_t i = 0; i < h.waiting; i++) {
+        tamburelvi_dmx_read d = tamburelvi_waiting(h, &t.rows, i);
+        tamburelvi_part_read v = tamburelvi_waiting_values(h, &t.rows, i);
         fputs("w ", stdout), put_number(d.universe), putchar(' '), put_number(d.address), putchar(' '), put_number(d.priority), putchar(' '), put_number(d.preview), putchar(' ');
         if (d.has_cid) put_cid(d.hi, d.lo);
         else putchar('-');
         putchar(' '), put_number(d.reading), putchar(' '), hex(t.store + v.start, v.count), putchar('\n');
     }
     fputs("l ", stdout);
-    if (!t.header.listened) putchar('-');
-    for (size_t i = 0; i < t.header.listened; i++) {
+    if (!h.listened) putchar('-');
+    for (size_t i = 0; i < h.listened; i++) {
         if (i) putchar(',');
-        put_number(tamburelvi_listened(t.header, (const uint16_t (*)[1024])&t.heard, i));
+        put_number(tamburelvi_listened(h, &t.heard, i));
     }
     putchar('\n');
     dump_sources('p', 0), dump_sources('q', 1);
     puts(".");
 }
+
+#define TABLES h, &t.data_pairs, &t.data_sources, &t.sync_pairs, &t.sync_sources, &t.rows, t.store, TAMBURELVI_STORE
 
 static bool packet(const char *word, int n) {
     uint64_t now, hi, lo, a, b, c, d, e;
@@ -179,18 +193,22 @@ static bool packet(const char *word, int n) {
             return false;
         tamburelvi_data p = {.hi = hi, .lo = lo, .universe = (uint16_t)a, .address = (uint16_t)b, .priority = (uint8_t)c, .sequence = (uint8_t)d,
             .preview = e & 128, .terminated = e & 64, .force_synchronization = e & 32};
-        answer(tamburelvi_take_data(&t, s, now, p, bytes, length, out, sizeof out), 0, 0);
+        reply(tamburelvi_handle_data_packet(TABLES, &t.heard, &t.sources, &t.names, &t.pages, t.universes, TAMBURELVI_UNIVERSES, s, now, p, bytes, length, out,
+            sizeof out));
         return true;
     }
     if (!strcmp(word, "sync")) {
         if (n != 5 || !number(field[3], 65535, &a) || !number(field[4], 255, &b)) return false;
         tamburelvi_sync p = {.hi = hi, .lo = lo, .address = (uint16_t)a, .sequence = (uint8_t)b};
-        answer(tamburelvi_take_sync(&t, s, now, p, out, sizeof out), 0, 0);
+        reply(tamburelvi_handle_sync_packet(TABLES, &t.heard, &t.sources, &t.names, &t.pages, t.universes, TAMBURELVI_UNIVERSES, s, now, p, out, sizeof out));
         return true;
     }
     if (n != 7 || !number(field[3], 255, &a) || !number(field[4], 255, &b) || !read_bytes(field[5], &length) || !read_list(field[6], &count)) return false;
     tamburelvi_page p = {.hi = hi, .lo = lo, .page = (uint8_t)a, .last_page = (uint8_t)b};
-    answer(tamburelvi_take_page(&t, s, now, p, bytes, length, numbers, count, out, sizeof out), bytes, length);
+    tamburelvi_reply r = tamburelvi_handle_universe_discovery_packet(TABLES, &t.heard, &t.sources, &t.names, &t.pages, t.universes, TAMBURELVI_UNIVERSES, s, now, p,
+        bytes, length, numbers, count, out, sizeof out);
+    h = r.header;
+    answer(r.answer, bytes, length);
     return true;
 }
 
@@ -201,10 +219,10 @@ static bool command(int n) {
     bool bit = n == 2 && number(field[1], 1, &v);
     if (n == 1) {
         if (!strcmp(w, "fresh")) {
-            tamburelvi_start(&t);
+            h = tamburelvi_new(&t.heard);
             s = tamburelvi_fresh_settings();
-        } else if (!strcmp(w, "clear_all")) tamburelvi_clear_all(&t);
-        else if (!strcmp(w, "reset")) tamburelvi_reset(&t);
+        } else if (!strcmp(w, "clear_all")) h = tamburelvi_clear_all_waiting_data(h);
+        else if (!strcmp(w, "reset")) h = tamburelvi_reset_sources(h);
         else if (!strcmp(w, "dump")) {
             dump();
             return true;
@@ -227,18 +245,18 @@ static bool command(int n) {
         said(l.number);
         return true;
     } else if (!strcmp(w, "listen") && read_list(field[1], &count)) {
-        answer(tamburelvi_listen(&t, numbers, count), 0, 0);
+        reply(tamburelvi_listen_universes(h, &t.heard, numbers, count));
         return true;
     } else if (!strcmp(w, "poll") && number(field[1], UINT64_MAX, &v)) {
-        answer(tamburelvi_sweep(&t, s, v), 0, 0);
+        reply(tamburelvi_poll(TABLES, s, v));
         return true;
     } else if (!strcmp(w, "sweep") && number(field[1], UINT64_MAX, &v)) {
-        answer(tamburelvi_expire(&t, v), 0, 0);
+        reply(tamburelvi_remove_expired_sources(h, &t.sources, &t.names, &t.pages, t.universes, TAMBURELVI_UNIVERSES, v));
         return true;
     } else if (number(field[1], 65535, &v)) {
-        if (!strcmp(w, "mute")) answer(tamburelvi_mute(&t, (uint16_t)v), 0, 0);
-        else if (!strcmp(w, "listening")) fputs("0 ", stdout), said(tamburelvi_listens(&t, (uint16_t)v));
-        else if (!strcmp(w, "clear")) answer(tamburelvi_clear(&t, (uint16_t)v), 0, 0);
+        if (!strcmp(w, "mute")) reply(tamburelvi_mute_universe(h, &t.heard, (uint16_t)v));
+        else if (!strcmp(w, "listening")) fputs("0 ", stdout), said(tamburelvi_is_listening(h, &t.heard, (uint16_t)v));
+        else if (!strcmp(w, "clear")) reply(tamburelvi_clear_waiting_data(h, &t.rows, t.store, TAMBURELVI_STORE, (uint16_t)v));
         else return false;
         return true;
     } else return false;
@@ -250,7 +268,7 @@ static bool command(int n) {
 long replay(void) {
     long lines = 0;
     memset(&t, 0xA5, sizeof t);
-    tamburelvi_start(&t);
+    h = tamburelvi_new(&t.heard);
     s = tamburelvi_fresh_settings();
     while (fgets(line, sizeof line, stdin)) {
         size_t n = strlen(line);

@@ -16,7 +16,10 @@ enum { SIDES = 3 };
 static const struct library { const char *name; EACH(FIELD, ) } sides[SIDES] = {
     {"proved", EACH(FILL, tamburelvi)}, {"portable", EACH(FILL, checked)}, {"portable, no overflow checks", EACH(FILL, plain)}};
 
-static tamburelvi receivers[SIDES];
+static struct receiver {
+    tamburelvi_header header;
+    tamburelvi_memory memory;
+} receivers[SIDES];
 static uint8_t out[TAMBURELVI_OUTPUT], values[TAMBURELVI_VALUES], name[TAMBURELVI_NAME];
 static uint16_t universes[1024];
 
@@ -32,30 +35,31 @@ static size_t count;
 
 static uint64_t hi_of(size_t source) { return (source + 1) * 0x9E3779B97F4A7C15u; }
 
-static size_t carry_out(const struct library *l, tamburelvi *t, const struct step *p, tamburelvi_settings s, uint64_t now, uint8_t sequence) {
-#define TABLES t->header, &t->data_pairs, &t->data_sources, &t->sync_pairs, &t->sync_sources, &t->rows, t->store, TAMBURELVI_STORE
+static size_t carry_out(const struct library *l, struct receiver *x, const struct step *p, tamburelvi_settings s, uint64_t now, uint8_t sequence) {
+#define TABLES x->header, &t->data_pairs, &t->data_sources, &t->sync_pairs, &t->sync_sources, &t->rows, t->store, TAMBURELVI_STORE
+    tamburelvi_memory *t = &x->memory;
     tamburelvi_reply r;
     switch (p->kind) {
     case DATA: {
         tamburelvi_data d = {.hi = p->hi, .lo = p->lo, .universe = p->universe, .address = p->address, .priority = 100, .sequence = sequence};
-        r = l->handle_data_packet(TABLES, &t->heard, (const uint64_t(*)[64][6]) & t->sources, (const uint8_t(*)[64][63]) & t->names, &t->pages, t->universes,
+        r = l->handle_data_packet(TABLES, &t->heard, &t->sources, &t->names, &t->pages, t->universes,
             TAMBURELVI_UNIVERSES, s, now, d, values, sizeof values, out, sizeof out);
         break;
     }
     case SYNC: {
         tamburelvi_sync y = {.hi = p->hi, .lo = p->lo, .address = p->address, .sequence = sequence};
-        r = l->handle_sync_packet(TABLES, (const uint16_t(*)[1024]) & t->heard, (const uint64_t(*)[64][6]) & t->sources, (const uint8_t(*)[64][63]) & t->names,
-            (const uint64_t(*)[64][5]) & t->pages, t->universes, TAMBURELVI_UNIVERSES, s, now, y, out, sizeof out);
+        r = l->handle_sync_packet(TABLES, &t->heard, &t->sources, &t->names,
+            &t->pages, t->universes, TAMBURELVI_UNIVERSES, s, now, y, out, sizeof out);
         break;
     }
     case POLL: r = l->poll(TABLES, s, now); break;
     default: {
         tamburelvi_page g = {.hi = p->hi, .lo = p->lo};
-        r = l->handle_universe_discovery_packet(TABLES, (const uint16_t(*)[1024]) & t->heard, &t->sources, &t->names, &t->pages, t->universes,
+        r = l->handle_universe_discovery_packet(TABLES, &t->heard, &t->sources, &t->names, &t->pages, t->universes,
             TAMBURELVI_UNIVERSES, s, now, g, name, 8, universes, 20, out, sizeof out);
     }
     }
-    t->header = r.header;
+    x->header = r.header;
     if (r.answer.number) printf("FAILED: %s: number %u\n", l->name, r.answer.number), exit(1);
     return r.answer.values == TAMBURELVI_RELEASE ? r.answer.second : 0;
 }
@@ -69,8 +73,8 @@ static void measure(const char *what, size_t pairs, size_t warm, bool announced,
     size_t repeats = (1000 + count - 1) / count, turns = 0, released[SIDES];
     for (int i = 0; i < SIDES; i++) {
         memset(&receivers[i], 0, sizeof receivers[i]);
-        receivers[i].header = sides[i].new(&receivers[i].heard);
-        receivers[i].header = sides[i].listen_universes(receivers[i].header, &receivers[i].heard, universes, 1000).header;
+        receivers[i].header = sides[i].new(&receivers[i].memory.heard);
+        receivers[i].header = sides[i].listen_universes(receivers[i].header, &receivers[i].memory.heard, universes, 1000).header;
         /* The pairs that a poll looks at. */
         for (size_t k = 0; k < warm; k++) {
             struct step d = {DATA, hi_of(k / 10), k / 10, (uint16_t)(k + 1), 0};
