@@ -1,3 +1,4 @@
+# shellcheck shell=bash disable=SC2154
 # Sourced by portable/host and portable/arm from the root of the repository: runs checks as parts, each with a line.
 # A part is a function of the script, run by another shell of the same script, in which any command that fails ends it
 # (`set -e` does not count within `||` and `if`); that shell gets the function's name by the first two words.

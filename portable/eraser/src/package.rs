@@ -17,9 +17,12 @@ pub struct Source {
     pub text: String,
 }
 
+/// Each crate with the crates that it uses.
+pub type Crates = BTreeMap<String, Vec<String>>;
+
 pub struct Sources {
     /// Name and uses of each crate of crates.txt.
-    pub crates: BTreeMap<String, Vec<String>>,
+    pub crates: Crates,
     /// The crates to erase, in the order of crates.txt.
     pub wanted: Vec<String>,
     pub files: Vec<Source>,
@@ -46,7 +49,7 @@ fn refusal(file: &str, line: usize, why: impl Into<String>) -> Refusal {
 /// Names that a crate cannot have as a module of the package.
 const RESERVED: &[&str] = &["c", "core", "std", "alloc", "lib", "main", "mod"];
 
-fn listed(text: &str) -> Result<(BTreeMap<String, Vec<String>>, Vec<String>), Refusal> {
+fn listed(text: &str) -> Result<(Crates, Vec<String>), Refusal> {
     let (mut crates, mut order) = (BTreeMap::new(), Vec::new());
     for (n, line) in text.lines().enumerate() {
         let line = line.split('#').next().unwrap_or("").trim();
