@@ -147,15 +147,8 @@ fn run(what: &str, pairs: usize, packets: &[Packet], seconds: f64) {
                     let (n, v) = match *p {
                         Packet::Data { cid, universe, address } => {
                             let packet = DataPacket {
-                                cid,
-                                universe,
                                 address,
-                                priority: 100,
-                                sequence: s,
-                                preview: false,
-                                terminated: false,
-                                force_synchronization: false,
-                                values: black_box(&values),
+                                ..DataPacket::new(cid, universe, s, black_box(&values))
                             };
                             if side == 0 {
                                 published.data(&packet)

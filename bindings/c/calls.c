@@ -59,29 +59,25 @@ static void show_release(const char *call, tamburelvi_answer a) {
     if (found != TAMBURELVI_END) printf("  malformed\n");
 }
 
+static void show_pair(const char *which, const tamburelvi_pair *p) {
+    printf("  %s pair ", which);
+    print_cid(p->cid);
+    printf(" %d, sequence %d, at %llu\n", p->universe, p->sequence, (unsigned long long)p->reading);
+}
+
+static void show_pair_source(const char *which, const uint8_t cid[TAMBURELVI_CID]) {
+    printf("  %s source ", which);
+    print_cid(cid);
+    printf("\n");
+}
+
 static void show_pairs(void) {
     tamburelvi_pair p;
     uint8_t cid[TAMBURELVI_CID];
-    for (size_t i = 0; tamburelvi_receiver_data_pair(r, i, &p); i++) {
-        printf("  data pair ");
-        print_cid(p.cid);
-        printf(" %d, sequence %d, at %llu\n", p.universe, p.sequence, (unsigned long long)p.reading);
-    }
-    for (size_t i = 0; tamburelvi_receiver_data_source(r, i, cid); i++) {
-        printf("  data source ");
-        print_cid(cid);
-        printf("\n");
-    }
-    for (size_t i = 0; tamburelvi_receiver_sync_pair(r, i, &p); i++) {
-        printf("  sync pair ");
-        print_cid(p.cid);
-        printf(" %d, sequence %d, at %llu\n", p.universe, p.sequence, (unsigned long long)p.reading);
-    }
-    for (size_t i = 0; tamburelvi_receiver_sync_source(r, i, cid); i++) {
-        printf("  sync source ");
-        print_cid(cid);
-        printf("\n");
-    }
+    for (size_t i = 0; tamburelvi_receiver_data_pair(r, i, &p); i++) show_pair("data", &p);
+    for (size_t i = 0; tamburelvi_receiver_data_source(r, i, cid); i++) show_pair_source("data", cid);
+    for (size_t i = 0; tamburelvi_receiver_sync_pair(r, i, &p); i++) show_pair("sync", &p);
+    for (size_t i = 0; tamburelvi_receiver_sync_source(r, i, cid); i++) show_pair_source("sync", cid);
     printf("  no more pairs\n");
 }
 

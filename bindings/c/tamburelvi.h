@@ -3,8 +3,9 @@
  * @brief Tamburelvi: the state of an ANSI E1.31 (sACN) receiver, every call proved equal to its definition.
  *
  * Link with libtamburelvi.a (`bindings/library` makes it, `bindings/c/install DIR` puts it, this file and a pkg-config
- * file in place). The library is for x86-64 with the System V calling convention. It opens no socket, reads no clock,
- * allocates nothing, prints nothing, keeps nothing between calls and never fails but by its answer.
+ * file in place). That library is for x86-64 with the System V calling convention; `portable/package DIR` writes the source of
+ * one for other processors. It opens no socket, reads no clock, allocates nothing, prints nothing, keeps nothing between calls
+ * and never fails but by its answer.
  *
  * Two layers, and one rule for their names:
  *
@@ -296,7 +297,8 @@ typedef struct tamburelvi_page_rows {
     uint64_t row[64][5];
 } tamburelvi_page_rows;
 
-/* ==== The layout that the library was built for; a compiler that lays a struct out in another way stops here ==== */
+/* ==== The layout that the library was built for, with a size_t of 8 bytes and, in the portable package, of 4; a compiler that
+   lays a struct out in another way stops here ==== */
 
 #if defined(__cplusplus) && __cplusplus >= 201103L
 #define TAMBURELVI_ASSERT(what, holds) static_assert(holds, #what)
@@ -307,24 +309,25 @@ typedef struct tamburelvi_page_rows {
 #endif
 #define TAMBURELVI_SIZE(type, bytes) TAMBURELVI_ASSERT(size_of_##type, sizeof(type) == (bytes))
 #define TAMBURELVI_AT(type, field, place) TAMBURELVI_ASSERT(place_of_##type##_##field, offsetof(type, field) == (place))
+#define TAMBURELVI_BY_WIDTH(of_8, of_4) (sizeof(size_t) == 8 ? (of_8) : (of_4))
 
-TAMBURELVI_SIZE(size_t, 8);
+TAMBURELVI_ASSERT(width_of_size_t, sizeof(size_t) == 8 || sizeof(size_t) == 4);
 TAMBURELVI_ASSERT(size_of_bool, sizeof(bool) == 1);
 
-TAMBURELVI_SIZE(tamburelvi_header, 96);
+TAMBURELVI_SIZE(tamburelvi_header, TAMBURELVI_BY_WIDTH(96, 56));
 TAMBURELVI_AT(tamburelvi_header, data_pairs, 0);
-TAMBURELVI_AT(tamburelvi_header, data_sources, 8);
-TAMBURELVI_AT(tamburelvi_header, data_oldest, 16);
-TAMBURELVI_AT(tamburelvi_header, sync_pairs, 24);
-TAMBURELVI_AT(tamburelvi_header, sync_sources, 32);
-TAMBURELVI_AT(tamburelvi_header, sync_oldest, 40);
-TAMBURELVI_AT(tamburelvi_header, waiting, 48);
-TAMBURELVI_AT(tamburelvi_header, listened, 56);
-TAMBURELVI_AT(tamburelvi_header, sources, 64);
-TAMBURELVI_AT(tamburelvi_header, pages, 72);
-TAMBURELVI_AT(tamburelvi_header, page_universes, 80);
-TAMBURELVI_AT(tamburelvi_header, data_tidy, 88);
-TAMBURELVI_AT(tamburelvi_header, sync_tidy, 89);
+TAMBURELVI_AT(tamburelvi_header, data_sources, TAMBURELVI_BY_WIDTH(8, 4));
+TAMBURELVI_AT(tamburelvi_header, data_oldest, TAMBURELVI_BY_WIDTH(16, 8));
+TAMBURELVI_AT(tamburelvi_header, sync_pairs, TAMBURELVI_BY_WIDTH(24, 16));
+TAMBURELVI_AT(tamburelvi_header, sync_sources, TAMBURELVI_BY_WIDTH(32, 20));
+TAMBURELVI_AT(tamburelvi_header, sync_oldest, TAMBURELVI_BY_WIDTH(40, 24));
+TAMBURELVI_AT(tamburelvi_header, waiting, TAMBURELVI_BY_WIDTH(48, 32));
+TAMBURELVI_AT(tamburelvi_header, listened, TAMBURELVI_BY_WIDTH(56, 36));
+TAMBURELVI_AT(tamburelvi_header, sources, TAMBURELVI_BY_WIDTH(64, 40));
+TAMBURELVI_AT(tamburelvi_header, pages, TAMBURELVI_BY_WIDTH(72, 44));
+TAMBURELVI_AT(tamburelvi_header, page_universes, TAMBURELVI_BY_WIDTH(80, 48));
+TAMBURELVI_AT(tamburelvi_header, data_tidy, TAMBURELVI_BY_WIDTH(88, 52));
+TAMBURELVI_AT(tamburelvi_header, sync_tidy, TAMBURELVI_BY_WIDTH(89, 53));
 
 TAMBURELVI_SIZE(tamburelvi_settings, 8);
 TAMBURELVI_AT(tamburelvi_settings, process_preview_data, 0);
@@ -357,18 +360,18 @@ TAMBURELVI_AT(tamburelvi_page, lo, 8);
 TAMBURELVI_AT(tamburelvi_page, page, 16);
 TAMBURELVI_AT(tamburelvi_page, last_page, 17);
 
-TAMBURELVI_SIZE(tamburelvi_answer, 40);
+TAMBURELVI_SIZE(tamburelvi_answer, TAMBURELVI_BY_WIDTH(40, 32));
 TAMBURELVI_AT(tamburelvi_answer, first, 0);
-TAMBURELVI_AT(tamburelvi_answer, second, 8);
-TAMBURELVI_AT(tamburelvi_answer, hi, 16);
-TAMBURELVI_AT(tamburelvi_answer, lo, 24);
-TAMBURELVI_AT(tamburelvi_answer, number, 32);
-TAMBURELVI_AT(tamburelvi_answer, values, 33);
-TAMBURELVI_AT(tamburelvi_answer, difference, 34);
+TAMBURELVI_AT(tamburelvi_answer, second, TAMBURELVI_BY_WIDTH(8, 4));
+TAMBURELVI_AT(tamburelvi_answer, hi, TAMBURELVI_BY_WIDTH(16, 8));
+TAMBURELVI_AT(tamburelvi_answer, lo, TAMBURELVI_BY_WIDTH(24, 16));
+TAMBURELVI_AT(tamburelvi_answer, number, TAMBURELVI_BY_WIDTH(32, 24));
+TAMBURELVI_AT(tamburelvi_answer, values, TAMBURELVI_BY_WIDTH(33, 25));
+TAMBURELVI_AT(tamburelvi_answer, difference, TAMBURELVI_BY_WIDTH(34, 26));
 
-TAMBURELVI_SIZE(tamburelvi_reply, 136);
+TAMBURELVI_SIZE(tamburelvi_reply, TAMBURELVI_BY_WIDTH(136, 88));
 TAMBURELVI_AT(tamburelvi_reply, header, 0);
-TAMBURELVI_AT(tamburelvi_reply, answer, 96);
+TAMBURELVI_AT(tamburelvi_reply, answer, TAMBURELVI_BY_WIDTH(96, 56));
 
 TAMBURELVI_SIZE(tamburelvi_limited, 10);
 TAMBURELVI_AT(tamburelvi_limited, settings, 0);
@@ -395,9 +398,9 @@ TAMBURELVI_AT(tamburelvi_dmx_read, priority, 28);
 TAMBURELVI_AT(tamburelvi_dmx_read, preview, 29);
 TAMBURELVI_AT(tamburelvi_dmx_read, has_cid, 30);
 
-TAMBURELVI_SIZE(tamburelvi_part_read, 16);
+TAMBURELVI_SIZE(tamburelvi_part_read, TAMBURELVI_BY_WIDTH(16, 8));
 TAMBURELVI_AT(tamburelvi_part_read, start, 0);
-TAMBURELVI_AT(tamburelvi_part_read, count, 8);
+TAMBURELVI_AT(tamburelvi_part_read, count, TAMBURELVI_BY_WIDTH(8, 4));
 
 TAMBURELVI_SIZE(tamburelvi_source_read, 48);
 TAMBURELVI_AT(tamburelvi_source_read, hi, 0);
@@ -407,11 +410,11 @@ TAMBURELVI_AT(tamburelvi_source_read, last_page, 24);
 TAMBURELVI_AT(tamburelvi_source_read, name_length, 32);
 TAMBURELVI_AT(tamburelvi_source_read, place, 40);
 
-TAMBURELVI_SIZE(tamburelvi_page_read, 32);
+TAMBURELVI_SIZE(tamburelvi_page_read, TAMBURELVI_BY_WIDTH(32, 24));
 TAMBURELVI_AT(tamburelvi_page_read, number, 0);
 TAMBURELVI_AT(tamburelvi_page_read, count, 8);
 TAMBURELVI_AT(tamburelvi_page_read, start, 16);
-TAMBURELVI_AT(tamburelvi_page_read, place, 24);
+TAMBURELVI_AT(tamburelvi_page_read, place, TAMBURELVI_BY_WIDTH(24, 20));
 
 TAMBURELVI_SIZE(tamburelvi_pair_rows, 32768);
 TAMBURELVI_AT(tamburelvi_pair_rows, row, 0);
@@ -428,6 +431,7 @@ TAMBURELVI_AT(tamburelvi_name_rows, row, 0);
 TAMBURELVI_SIZE(tamburelvi_page_rows, 2560);
 TAMBURELVI_AT(tamburelvi_page_rows, row, 0);
 
+#undef TAMBURELVI_BY_WIDTH
 #undef TAMBURELVI_AT
 #undef TAMBURELVI_SIZE
 #undef TAMBURELVI_ASSERT

@@ -19,25 +19,11 @@ enum Event {
     Silence,
 }
 
-fn data(cid: Cid, universe: u16, sequence: u8, values: &'static [u8]) -> DataPacket<'static> {
-    DataPacket {
-        cid,
-        universe,
-        address: 0,
-        priority: 100,
-        sequence,
-        preview: false,
-        terminated: false,
-        force_synchronization: false,
-        values,
-    }
-}
-
 /// Universe 2 waits for the synchronisation packets of address 7.
 fn waits(cid: Cid, sequence: u8, values: &'static [u8]) -> DataPacket<'static> {
     DataPacket {
         address: 7,
-        ..data(cid, 2, sequence, values)
+        ..DataPacket::new(cid, 2, sequence, values)
     }
 }
 
@@ -56,17 +42,23 @@ fn events() -> Vec<(u64, Event)> {
     };
     let ends = DataPacket {
         terminated: true,
-        ..data(SOUTH, 1, 1, &[0])
+        ..DataPacket::new(SOUTH, 1, 1, &[0])
     };
     let urgent = DataPacket {
         priority: 150,
-        ..data(SOUTH, 1, 0, &[0, 9])
+        ..DataPacket::new(SOUTH, 1, 0, &[0, 9])
     };
     vec![
         (0, Event::Discovery(page(NORTH, b"North desk", &[1, 2]))),
-        (10, Event::Data(data(NORTH, 1, 0, &[0, 255, 128]))),
+        (
+            10,
+            Event::Data(DataPacket::new(NORTH, 1, 0, &[0, 255, 128])),
+        ),
         (20, Event::Data(urgent)),
-        (30, Event::Data(data(NORTH, 1, 0, &[0, 255, 128]))),
+        (
+            30,
+            Event::Data(DataPacket::new(NORTH, 1, 0, &[0, 255, 128])),
+        ),
         (40, Event::Data(waits(NORTH, 0, &[0, 10, 200]))),
         (50, Event::Data(waits(SOUTH, 0, &[0, 50]))),
         (60, Event::Sync(sync)),
@@ -74,11 +66,14 @@ fn events() -> Vec<(u64, Event)> {
             70,
             Event::Discovery(page(SOUTH, b"South \x1b[1mdesk", &[1, 2])),
         ),
-        (80, Event::Data(data(GUEST, 1, 0, &[0, 1]))),
+        (80, Event::Data(DataPacket::new(GUEST, 1, 0, &[0, 1]))),
         (90, Event::Data(ends)),
-        (2_540, Event::Data(data(NORTH, 1, 1, &[0, 240, 120]))),
+        (
+            2_540,
+            Event::Data(DataPacket::new(NORTH, 1, 1, &[0, 240, 120])),
+        ),
         (2_700, Event::Silence),
-        (2_800, Event::Data(data(GUEST, 1, 0, &[0, 1]))),
+        (2_800, Event::Data(DataPacket::new(GUEST, 1, 0, &[0, 1]))),
     ]
 }
 

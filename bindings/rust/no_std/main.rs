@@ -57,17 +57,7 @@ fn run() -> Result<usize, Stop> {
     else {
         return Ok(0);
     };
-    let packet = DataPacket {
-        cid: Cid([1; 16]),
-        universe: 1,
-        address: 0,
-        priority: 100,
-        sequence: 0,
-        preview: false,
-        terminated: false,
-        force_synchronization: false,
-        values: &[0, 255],
-    };
+    let packet = DataPacket::new(Cid([1; 16]), 1, 0, &[0, 255]);
     let mut clone = receiver.clone();
     match clone.handle_data_packet(0, &packet)? {
         Step::Released(records) => Ok(name.as_bytes().len() + records.bytes().len()),

@@ -10,17 +10,7 @@
 //! fn main() -> Result<(), Box<dyn std::error::Error>> {
 //!     let mut receiver = Receiver::new();
 //!     receiver.listen_universes(&[1])?;
-//!     let packet = DataPacket {
-//!         cid: Cid([0x11; 16]),
-//!         universe: 1,
-//!         address: 0,
-//!         priority: 100,
-//!         sequence: 0,
-//!         preview: false,
-//!         terminated: false,
-//!         force_synchronization: false,
-//!         values: &[0, 255],
-//!     };
+//!     let packet = DataPacket::new(Cid([0x11; 16]), 1, 0, &[0, 255]);
 //!     let Step::Released(records) = receiver.handle_data_packet(1000, &packet)? else {
 //!         panic!("the first packet of a universe is released");
 //!     };

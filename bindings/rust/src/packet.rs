@@ -25,6 +25,23 @@ pub struct DataPacket<'a> {
     pub values: &'a [u8],
 }
 
+impl<'a> DataPacket<'a> {
+    /// An unsynchronised packet of priority 100 without options. What differs is set in its fields.
+    pub const fn new(cid: Cid, universe: u16, sequence: u8, values: &'a [u8]) -> DataPacket<'a> {
+        DataPacket {
+            cid,
+            universe,
+            address: 0,
+            priority: 100,
+            sequence,
+            preview: false,
+            terminated: false,
+            force_synchronization: false,
+            values,
+        }
+    }
+}
+
 /// A synchronisation packet (E1.31 6.3).
 #[derive(Clone, Copy, PartialEq, Eq, Debug)]
 pub struct SyncPacket {

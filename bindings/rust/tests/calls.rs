@@ -3,17 +3,7 @@
 use tamburelvi::{Cid, DataPacket, DiscoveryPacket, Merge, Receiver, Step, Stop, SyncPacket};
 
 fn packet(source: u8, universe: u16, sequence: u8, values: &[u8]) -> DataPacket<'_> {
-    DataPacket {
-        cid: Cid([source; 16]),
-        universe,
-        address: 0,
-        priority: 100,
-        sequence,
-        preview: false,
-        terminated: false,
-        force_synchronization: false,
-        values,
-    }
+    DataPacket::new(Cid([source; 16]), universe, sequence, values)
 }
 
 type Seen = (u16, u16, Option<Cid>, u64, Vec<u8>);

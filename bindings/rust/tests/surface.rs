@@ -9,17 +9,7 @@ use tamburelvi::{
 };
 
 fn data(source: u8, universe: u16, sequence: u8) -> DataPacket<'static> {
-    DataPacket {
-        cid: Cid([source; 16]),
-        universe,
-        address: 0,
-        priority: 100,
-        sequence,
-        preview: false,
-        terminated: false,
-        force_synchronization: false,
-        values: &[0, 7],
-    }
+    DataPacket::new(Cid([source; 16]), universe, sequence, &[0, 7])
 }
 
 fn waits(source: u8, universe: u16, sequence: u8) -> DataPacket<'static> {

@@ -9,7 +9,8 @@ ghost use Rattle.model.specs.Answer.{stepNumber};
 ghost use Rattle.model.specs.Step.{stopped};
 ghost use Rattle.pairs.specs.Table.{numberOf, valuesOf};
 ghost use Rattle.pair_tables.specs.View.{Kept as TableKept};
-ghost use Rattle.sequences.specs.View.{Kept as SequencesKept, lent as sequence-rows};
+ghost use Rattle.sequences.specs.Contracts.{sequence-rows-in, sequence-rows};
+ghost use Rattle.sequences.specs.View.{Kept as SequencesKept};
 ghost use Rattle.packets.specs.View.{packetOf, syncOf};
 ghost use Rattle.arrivals.specs.View.{dataOf, lentOf, rowsOf, storeSaid, releaseSaid};
 ghost use Rattle.arrivals.specs.View.{Tells, Releases, Holds, Accepts, Arrives, Synchronises, Polls};
@@ -388,13 +389,13 @@ pub fn poll(
     settings: Settings,
     reading: u64,
 ) -> Polled
-    requires { ⌜ SequencesKept sequences (sequence-rows (now «data_pairs») (now «data_sources») (now «sync_pairs») (now «sync_sources»))
+    requires { ⌜ SequencesKept sequences (sequence-rows-in «data_pairs» «data_sources» «sync_pairs» «sync_sources»)
         × WaitingKept (waiting .count) (now rows) (now store) ⌝ }
-    ensures { λ r. ⌜ Polls settings reading
-        sequences (sequence-rows (now («data_pairs» .entry)) (now («data_sources» .entry)) (now («sync_pairs» .entry)) (now («sync_sources» .entry)))
-        (waiting .count) (now (rows .entry)) (now (store .entry))
-        (r .sequences) (sequence-rows (now («data_pairs» .exit)) (now («data_sources» .exit)) (now («sync_pairs» .exit)) (now («sync_sources» .exit)))
-        (r .waiting .count) (now (rows .exit)) (now (store .exit)) (r .answer) ⌝ }
+    ensures { λ r.
+        let m = sequence-rows «data_pairs» «data_sources» «sync_pairs» «sync_sources» in
+        ⌜ Polls settings reading
+        sequences (m .entry) (waiting .count) (now (rows .entry)) (now (store .entry))
+        (r .sequences) (m .exit) (r .waiting .count) (now (rows .exit)) (now (store .exit)) (r .answer) ⌝ }
 {
     let t = sequences.check_timeouts(
         data_pairs,

@@ -3,7 +3,7 @@ ghost use mathlib.Core.Path.{_≡_};
 ghost use Rattle.settings.specs.declared.SourceLimit.the-variants.{Unlimited};
 ghost use mathlib.Core.Bool.{false};
 ghost use Rattle.pairs.specs.Table.{numberOf, check};
-ghost use Rattle.pair_tables.specs.Lent.{at-entry, Leaves};
+ghost use Rattle.pair_tables.specs.Contracts.{table-before, Leaves};
 ghost use Rattle.pair_tables.specs.View.{arriving, Kept};
 ghost use Rattle.bench_pairs.specs.Bench.{tableFrom, numbered};
 use pair_rows::PairRows;
@@ -51,7 +51,7 @@ pub extern "C" fn bench_check_seq_number(
 ) -> Header
     requires { ⌜ Kept (tableFrom header) (now pairs) (now sources) ⌝ }
     ensures { λ r. ⌜ Leaves (tableFrom r) pairs sources (r .number)
-        (numbered (check Unlimited false (arriving (record { hi = hi; lo = lo }) universe sequence reading) (at-entry (tableFrom header) pairs sources))) ⌝ }
+        (numbered (check Unlimited false (arriving (record { hi = hi; lo = lo }) universe sequence reading) (table-before (tableFrom header) pairs sources))) ⌝ }
 {
     let table = PairTable {
         count: header.count,

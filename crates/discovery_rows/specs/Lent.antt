@@ -2,13 +2,9 @@
 -- Assumes nothing.
 use mathlib.Core.Path.{_≡_, refl, _∙_}
 use mathlib.Core.List.{List}
-use Prim.Native.Nat.{ℕ, _*_}
+use Prim.Native.Nat.{ℕ}
 use lib.ListN.{length, drop}
-use Rattle.discovery.specs.Discovery.{capacity, most-universes, pool-length}
-
--- all pages full
-pub pool-full : pool-length ≡ capacity * most-universes
-pool-full = refl
+use Rattle.discovery.specs.Discovery.{pool-length}
 
 -- the pool past its 64 pages stays, and its length
 pub record Lent (universes universes′ : List ℕ) : Type 0 where

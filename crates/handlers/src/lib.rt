@@ -2,7 +2,7 @@
 ghost use Rattle.model.specs.Packet.{data-packet, sync-packet, discovery-packet};
 ghost use Rattle.packets.specs.View.{packetOf, syncOf};
 ghost use Rattle.receiver.specs.View.{Kept};
-ghost use Rattle.receiver.specs.Lent.{lent-in, lent};
+ghost use Rattle.receiver.specs.Contracts.{lent-in, lent};
 ghost use Rattle.packets.specs.View.{announcementOf};
 ghost use Rattle.handlers.specs.View.{Steps};
 use discovery_rows::HeadRows;

@@ -1,4 +1,4 @@
 pub mod View
-pub mod Lent
+pub mod Contracts
 pub mod Admit
 pub mod Calls

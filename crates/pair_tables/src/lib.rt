@@ -13,7 +13,7 @@ ghost use Rattle.rules.specs.Age.{expired};
 ghost use Rattle.rules.specs.Cid.{before};
 ghost use Rattle.pairs.specs.Table.{capacity, key, itself, has, sweep, admit, check};
 ghost use Rattle.pair_rows.specs.View.{pairsOf, sourcesOf, foundAt};
-ghost use Rattle.pair_tables.specs.Lent.{at-entry, Leaves};
+ghost use Rattle.pair_tables.specs.Contracts.{table-before, Leaves};
 ghost use Rattle.pair_tables.specs.View.{answered, removal, renewed, Kept, Emptied, Unmoved, PairsKept, Stored, Admitted, NewPair, KnownPair, NewSource, arriving};
 use pair_rows::Found;
 use pair_rows::PAIRS;
@@ -130,7 +130,7 @@ impl PairTable {
         universe: u16,
     ) -> Removal
         requires { ⌜ Kept self (now pairs) (now sources) ⌝ }
-        ensures { λ r. ⌜ Leaves (r .table) pairs sources (r .known) (removal (key cid universe) (at-entry self pairs sources)) ⌝ }
+        ensures { λ r. ⌜ Leaves (r .table) pairs sources (r .known) (removal (key cid universe) (table-before self pairs sources)) ⌝ }
     {
         let Found::At(at) = self.find(&*pairs, cid, universe) else {
             return Removal {
@@ -196,7 +196,7 @@ impl PairTable {
     // All expired pairs go, and every CID without a pair. Rows are written only if there are such.
     fn sweep_expired(self, pairs: &mut PairRows, sources: &mut SourceRows, reading: u64) -> Swept
         requires { ⌜ Kept self (now pairs) (now sources) ⌝ }
-        ensures view { λ r. ⌜ Leaves (r .table) pairs sources (r .answer) (answered (sweep false reading (at-entry self pairs sources))) ⌝ }
+        ensures view { λ r. ⌜ Leaves (r .table) pairs sources (r .answer) (answered (sweep false reading (table-before self pairs sources))) ⌝ }
         ensures quiet { λ r. ⌜ Unmoved self (now (pairs .entry)) (now (sources .entry)) reading (now (pairs .exit)) (now (sources .exit)) ⌝ }
     {
         if self.is_idle(reading) {
@@ -230,7 +230,7 @@ impl PairTable {
     // The pair of the last source noted goes, and is told; where none is noted the header's notes are made anew.
     fn sweep_announced(self, pairs: &mut PairRows, sources: &mut SourceRows, reading: u64) -> Swept
         requires { ⌜ Kept self (now pairs) (now sources) ⌝ }
-        ensures view { λ r. ⌜ Leaves (r .table) pairs sources (r .answer) (answered (sweep true reading (at-entry self pairs sources))) ⌝ }
+        ensures view { λ r. ⌜ Leaves (r .table) pairs sources (r .answer) (answered (sweep true reading (table-before self pairs sources))) ⌝ }
         ensures quiet { λ r. ⌜ Unmoved self (now (pairs .entry)) (now (sources .entry)) reading (now (pairs .exit)) (now (sources .exit)) ⌝ }
     {
         if is_expired(reading, self.oldest) {
@@ -268,7 +268,7 @@ impl PairTable {
         reading: u64,
     ) -> Swept
         requires { ⌜ Kept self (now pairs) (now sources) ⌝ }
-        ensures view { λ r. ⌜ Leaves (r .table) pairs sources (r .answer) (answered (sweep announce reading (at-entry self pairs sources))) ⌝ }
+        ensures view { λ r. ⌜ Leaves (r .table) pairs sources (r .answer) (answered (sweep announce reading (table-before self pairs sources))) ⌝ }
         ensures quiet { λ r. ⌜ Unmoved self (now (pairs .entry)) (now (sources .entry)) reading (now (pairs .exit)) (now (sources .exit)) ⌝ }
     {
         if announce {
@@ -367,7 +367,7 @@ impl PairTable {
         pair: Pair,
     ) -> Arrival
         requires { ⌜ NewSource self (now pairs) (now sources) pair ⌝ }
-        ensures { λ r. ⌜ Leaves (r .table) pairs sources (r .answer) (admit limit pair (at-entry self pairs sources)) ⌝ }
+        ensures { λ r. ⌜ Leaves (r .table) pairs sources (r .answer) (admit limit pair (table-before self pairs sources)) ⌝ }
     {
         let n = self.source_count;
         if is_reached(limit, n) {
@@ -416,7 +416,7 @@ impl PairTable {
         pair: Pair,
     ) -> Arrival
         requires { ⌜ Kept self (now pairs) (now sources) ⌝ }
-        ensures { λ r. ⌜ Leaves (r .table) pairs sources (r .answer) (admit limit pair (at-entry self pairs sources)) ⌝ }
+        ensures { λ r. ⌜ Leaves (r .table) pairs sources (r .answer) (admit limit pair (table-before self pairs sources)) ⌝ }
     {
         let cid = pair.cid;
         let Found::At(_) = find_source(&*sources, self.source_count, cid) else {
@@ -441,7 +441,7 @@ impl PairTable {
         pair: Pair,
     ) -> Arrival
         requires { ⌜ Kept self (now pairs) (now sources) ⌝ }
-        ensures { λ r. ⌜ Leaves (r .table) pairs sources (r .answer) (check limit announce pair (at-entry self pairs sources)) ⌝ }
+        ensures { λ r. ⌜ Leaves (r .table) pairs sources (r .answer) (check limit announce pair (table-before self pairs sources)) ⌝ }
     {
         let s = self.sweep(&mut *pairs, &mut *sources, announce, pair.reading);
         let t = s.table;
@@ -508,7 +508,7 @@ impl DataTable {
         reading: u64,
     ) -> DataSwept
         requires { ⌜ Kept (self .table) (now pairs) (now sources) ⌝ }
-        ensures view { λ r. ⌜ Leaves (r .table .table) pairs sources (r .answer) (answered (sweep announce reading (at-entry (self .table) pairs sources))) ⌝ }
+        ensures view { λ r. ⌜ Leaves (r .table .table) pairs sources (r .answer) (answered (sweep announce reading (table-before (self .table) pairs sources))) ⌝ }
         ensures quiet { λ r. ⌜ Unmoved (self .table) (now (pairs .entry)) (now (sources .entry)) reading (now (pairs .exit)) (now (sources .exit)) ⌝ }
     {
         let t = self.table;
@@ -529,7 +529,7 @@ impl DataTable {
         universe: u16,
     ) -> DataRemoval
         requires { ⌜ Kept (self .table) (now pairs) (now sources) ⌝ }
-        ensures { λ r. ⌜ Leaves (r .table .table) pairs sources (r .known) (removal (key cid universe) (at-entry (self .table) pairs sources)) ⌝ }
+        ensures { λ r. ⌜ Leaves (r .table .table) pairs sources (r .known) (removal (key cid universe) (table-before (self .table) pairs sources)) ⌝ }
     {
         let t = self.table;
         let r = t.remove(pairs, sources, cid, universe);
@@ -553,7 +553,7 @@ impl DataTable {
     ) -> DataArrival
         requires { ⌜ Kept (self .table) (now pairs) (now sources) ⌝ }
         ensures { λ r. ⌜ Leaves (r .table .table) pairs sources (r .answer)
-            (check limit announce (arriving cid universe (sequence .0) reading) (at-entry (self .table) pairs sources)) ⌝ }
+            (check limit announce (arriving cid universe (sequence .0) reading) (table-before (self .table) pairs sources)) ⌝ }
     {
         let t = self.table;
         let number = sequence.0;
@@ -625,7 +625,7 @@ impl SyncTable {
         reading: u64,
     ) -> SyncSwept
         requires { ⌜ Kept (self .table) (now pairs) (now sources) ⌝ }
-        ensures view { λ r. ⌜ Leaves (r .table .table) pairs sources (r .answer) (answered (sweep announce reading (at-entry (self .table) pairs sources))) ⌝ }
+        ensures view { λ r. ⌜ Leaves (r .table .table) pairs sources (r .answer) (answered (sweep announce reading (table-before (self .table) pairs sources))) ⌝ }
         ensures quiet { λ r. ⌜ Unmoved (self .table) (now (pairs .entry)) (now (sources .entry)) reading (now (pairs .exit)) (now (sources .exit)) ⌝ }
     {
         let t = self.table;
@@ -646,7 +646,7 @@ impl SyncTable {
         universe: u16,
     ) -> SyncRemoval
         requires { ⌜ Kept (self .table) (now pairs) (now sources) ⌝ }
-        ensures { λ r. ⌜ Leaves (r .table .table) pairs sources (r .known) (removal (key cid universe) (at-entry (self .table) pairs sources)) ⌝ }
+        ensures { λ r. ⌜ Leaves (r .table .table) pairs sources (r .known) (removal (key cid universe) (table-before (self .table) pairs sources)) ⌝ }
     {
         let t = self.table;
         let r = t.remove(pairs, sources, cid, universe);
@@ -670,7 +670,7 @@ impl SyncTable {
     ) -> SyncArrival
         requires { ⌜ Kept (self .table) (now pairs) (now sources) ⌝ }
         ensures { λ r. ⌜ Leaves (r .table .table) pairs sources (r .answer)
-            (check limit announce (arriving cid universe (sequence .0) reading) (at-entry (self .table) pairs sources)) ⌝ }
+            (check limit announce (arriving cid universe (sequence .0) reading) (table-before (self .table) pairs sources)) ⌝ }
     {
         let t = self.table;
         let number = sequence.0;

@@ -1,3 +1,3 @@
 pub mod View
-pub mod Lent
+pub mod Contracts
 pub mod Further

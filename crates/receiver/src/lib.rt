@@ -9,7 +9,8 @@ ghost use Rattle.model.specs.Calls.{poll-call, expiry-call, listen-call, mute-c
 ghost use Rattle.lengths.specs.Space.{bytes};
 ghost use Rattle.laws.specs.Lent.{untouched};
 ghost use Rattle.receiver.specs.View.{Memory, with-listened-rows, stateOf, KeptWaiting, KeptDiscovery, Kept, Begins, Does, Becomes};
-ghost use Rattle.receiver.specs.Lent.{sequences-in, sequences-lent, waiting-lent, listened-lent, discovery-lent};
+ghost use Rattle.sequences.specs.Contracts.{sequence-rows-in};
+ghost use Rattle.receiver.specs.Contracts.{sequences-lent, waiting-lent, listened-lent, discovery-lent};
 ghost use Rattle.model.specs.Step.{most-listened};
 use arrivals::poll;
 use discovery_calls::Discovery;
@@ -99,7 +100,7 @@ impl Receiver {
         settings: Settings,
         reading: u64,
     ) -> AfterPoll
-        requires sequences { ⌜ sequences.Kept (self .sequences) (sequences-in «data_pairs» «data_sources» «sync_pairs» «sync_sources») ⌝ }
+        requires sequences { ⌜ sequences.Kept (self .sequences) (sequence-rows-in «data_pairs» «data_sources» «sync_pairs» «sync_sources») ⌝ }
         requires waiting { ⌜ KeptWaiting (self .waiting .count) (now rows) (now store) ⌝ }
         ensures { λ r. ⌜ ((rest : Memory) →
             let m = sequences-lent «data_pairs» «data_sources» «sync_pairs» «sync_sources» (waiting-lent rows store (untouched rest)) in

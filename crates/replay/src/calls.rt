@@ -13,7 +13,7 @@ ghost use Rattle.packets.specs.View.{packetOf, syncOf};
 ghost use Rattle.model.specs.Packet.{data-packet, sync-packet, discovery-packet};
 ghost use Rattle.model.specs.Calls.{poll-call, expiry-call, listen-call, mute-call, clear-call, clear-all-call, reset-call};
 ghost use Rattle.model.specs.Answer.{pollNumber, pollValues, expiryNumber, expiryValues, listenNumber, listenValues, muteNumber, muteValues, clearNumber, clearValues};
-ghost use Rattle.receiver.specs.Lent.{lent, lent-in};
+ghost use Rattle.receiver.specs.Contracts.{lent, lent-in};
 ghost use Rattle.discovery.specs.Discovery.{pool-length};
 ghost use Rattle.receiver.specs.View.{Memory, memory, with-sequence-rows, with-waiting-rows, with-listened-rows, with-discovery-rows, stateOf, spaceIn, Kept};
 ghost use Rattle.packets.specs.View.{announcementOf};

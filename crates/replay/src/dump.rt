@@ -12,7 +12,7 @@ ghost use Rattle.listening.specs.View.{listenedOf};
 ghost use Rattle.discovery_rows.specs.Rows.{Packing};
 ghost use Rattle.discovery_calls.specs.View.{Kept as DiscoveryKept, discoveredOf};
 ghost use Rattle.discovery_reads.specs.Reads.{pages-of, sources-of};
-ghost use Rattle.receiver.specs.Lent.{lent, lent-in};
+ghost use Rattle.receiver.specs.Contracts.{lent, lent-in};
 ghost use Rattle.discovery.specs.Discovery.{pool-length};
 ghost use Rattle.receiver.specs.View.{memory, stateOf, Kept};
 ghost use Rattle.replay.specs.Text.{Ready, Tells};

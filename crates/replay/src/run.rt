@@ -1,7 +1,7 @@
 // The script line by line.
 ghost use mathlib.Core.Path.{_≡_};
 ghost use lib.ListN.{length};
-ghost use Rattle.receiver.specs.Lent.{lent, lent-in};
+ghost use Rattle.receiver.specs.Contracts.{lent, lent-in};
 ghost use Rattle.receiver.specs.View.{Memory, memory, stateOf};
 ghost use Rattle.replay.specs.Lines.{silent};
 ghost use Rattle.replay.specs.Text.{Ready};

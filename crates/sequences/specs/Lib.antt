@@ -1,4 +1,4 @@
 pub mod Sequences
 pub mod View
-pub mod Lent
+pub mod Contracts
 pub mod Laws

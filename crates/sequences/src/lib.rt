@@ -4,7 +4,7 @@ ghost use Prim.Native.Nat.{_≤_};
 ghost use lib.ListN.{length};
 ghost use Rattle.pairs.specs.Table.{key};
 ghost use Rattle.sequences.specs.Sequences.{timeouts, removed};
-ghost use Rattle.sequences.specs.Lent.{lent-in, lent-parts};
+ghost use Rattle.sequences.specs.Contracts.{sequence-rows-in, sequence-rows};
 ghost use Rattle.sequences.specs.View.{numbersOf, Kept, Follows, Unmoved, Emptied, answered};
 use pair_rows::PairRows;
 use pair_rows::SourceRows;
@@ -52,12 +52,12 @@ impl SequenceNumbering {
         announce: bool,
         reading: u64,
     ) -> TimeoutsChecked
-        requires { ⌜ Kept self (lent-in «data_pairs» «data_sources» «sync_pairs» «sync_sources») ⌝ }
+        requires { ⌜ Kept self (sequence-rows-in «data_pairs» «data_sources» «sync_pairs» «sync_sources») ⌝ }
         ensures view { λ r.
-            let m = lent-parts «data_pairs» «data_sources» «sync_pairs» «sync_sources» in
+            let m = sequence-rows «data_pairs» «data_sources» «sync_pairs» «sync_sources» in
             ⌜ Follows (r .sequences) (m .exit) (r .answer) (answered (timeouts announce reading (numbersOf self (m .entry)))) ⌝ }
         ensures quiet { λ r.
-            let m = lent-parts «data_pairs» «data_sources» «sync_pairs» «sync_sources» in
+            let m = sequence-rows «data_pairs» «data_sources» «sync_pairs» «sync_sources» in
             ⌜ Unmoved self (m .entry) reading (m .exit) ⌝ }
     {
         let d = self.data;
@@ -93,12 +93,12 @@ impl SequenceNumbering {
         cid: Cid,
         universe: u16,
     ) -> SequenceNumbering
-        requires { ⌜ Kept self (lent-in «data_pairs» «data_sources» «sync_pairs» «sync_sources») ⌝ }
+        requires { ⌜ Kept self (sequence-rows-in «data_pairs» «data_sources» «sync_pairs» «sync_sources») ⌝ }
         ensures view { λ r.
-            let m = lent-parts «data_pairs» «data_sources» «sync_pairs» «sync_sources» in
+            let m = sequence-rows «data_pairs» «data_sources» «sync_pairs» «sync_sources» in
             ⌜ numbersOf r (m .exit) ≡ removed (key cid universe) (numbersOf self (m .entry)) ⌝ }
         ensures kept { λ r.
-            let m = lent-parts «data_pairs» «data_sources» «sync_pairs» «sync_sources» in
+            let m = sequence-rows «data_pairs» «data_sources» «sync_pairs» «sync_sources» in
             ⌜ Kept r (m .exit) ⌝ }
     {
         let d = self.data;

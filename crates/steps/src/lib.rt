@@ -1,4 +1,4 @@
-// Document 01, 'The receiver', the parts of a step: its opening (lengths, then the poll), and what each kind of packet does behind it.
+// Document 01, 'The receiver', the parts of a step: its opening (lengths, then the poll), and what each kind of packet does behind it. Crate handlers calls them in the order of a step.
 ghost use mathlib.Core.Path.{_≡_};
 ghost use mathlib.Core.Bool.{not, _&&_};
 ghost use mathlib.Core.List.{List};
@@ -14,7 +14,8 @@ ghost use Rattle.model.specs.Step.{listed};
 ghost use Rattle.packets.specs.View.{packetOf, syncOf};
 ghost use Rattle.laws.specs.Lent.{untouched};
 ghost use Rattle.receiver.specs.View.{Memory, with-discovery-rows, KeptWaiting, Kept};
-ghost use Rattle.receiver.specs.Lent.{sequences-in, lent, sequences-lent, sync-lent, waiting-lent, listened-lent, discovery-lent};
+ghost use Rattle.sequences.specs.Contracts.{sequence-rows-in};
+ghost use Rattle.receiver.specs.Contracts.{lent, sequences-lent, sync-lent, waiting-lent, listened-lent, discovery-lent};
 ghost use Rattle.waiting.specs.Records.{most-bytes};
 ghost use Rattle.merge.specs.Merge.{most-values};
 ghost use Rattle.discovery.specs.Discovery.{most-name, most-universes};
@@ -130,7 +131,7 @@ pub fn open(
     part: Measured,
     out: &[u8],
 ) -> Opened
-    requires sequences { ⌜ sequences.Kept (receiver .sequences) (sequences-in «data_pairs» «data_sources» «sync_pairs» «sync_sources») ⌝ }
+    requires sequences { ⌜ sequences.Kept (receiver .sequences) (sequence-rows-in «data_pairs» «data_sources» «sync_pairs» «sync_sources») ⌝ }
     requires waiting { ⌜ KeptWaiting (receiver .waiting .count) (now rows) (now store) ⌝ }
     ensures { λ r. ⌜ ((rest : Memory) (sources names pages : List (List ℕ)) →
         let m = sequences-lent «data_pairs» «data_sources» «sync_pairs» «sync_sources» (waiting-lent rows store
@@ -318,7 +319,7 @@ fn end_stream(
     cid: Cid,
     universe: u16,
 ) -> Receiver
-    requires sequences { ⌜ sequences.Kept (receiver .sequences) (sequences-in «data_pairs» «data_sources» «sync_pairs» «sync_sources») ⌝ }
+    requires sequences { ⌜ sequences.Kept (receiver .sequences) (sequence-rows-in «data_pairs» «data_sources» «sync_pairs» «sync_sources») ⌝ }
     requires discovery { ⌜ discovery.Kept (receiver .discovery) (now sources) (now names) (now pages) (now universes) ⌝ }
     ensures { λ r. ⌜ ((rest : Memory) →
         let m = sequences-lent «data_pairs» «data_sources» «sync_pairs» «sync_sources» (discovery-lent sources names pages universes (untouched rest)) in
@@ -365,7 +366,7 @@ pub fn take_data(
     values: &[u8],
     out: &mut [u8],
 ) -> Handled
-    requires { ⌜ sequences.Kept (receiver .sequences) (sequences-in «data_pairs» «data_sources» «sync_pairs» «sync_sources»)
+    requires { ⌜ sequences.Kept (receiver .sequences) (sequence-rows-in «data_pairs» «data_sources» «sync_pairs» «sync_sources»)
         × waiting.Kept (receiver .waiting .count) (now rows) (now store)
         × listening.Kept (receiver .listened) (now heard)
         × discovery.Kept (receiver .discovery) (now sources) (now names) (now pages) (now universes)

@@ -11,7 +11,8 @@ ghost use Rattle.model.specs.Calls.{poll-call, expiry-call, listen-call, mute-c
 ghost use Rattle.lengths.specs.Space.{bytes};
 ghost use Rattle.laws.specs.Lent.{untouched};
 ghost use Rattle.receiver.specs.View.{Memory, with-listened-rows, stateOf, KeptWaiting, KeptDiscovery, Kept, Begins, Becomes};
-ghost use Rattle.receiver.specs.Lent.{sequences-in, lent-in, lent, sequences-lent, waiting-lent, listened-lent, discovery-lent};
+ghost use Rattle.sequences.specs.Contracts.{sequence-rows-in};
+ghost use Rattle.receiver.specs.Contracts.{lent-in, lent, sequences-lent, waiting-lent, listened-lent, discovery-lent};
 ghost use Rattle.boundary.specs.Boundary.{receiverOf, mergeOf, settingsOf, packetIn, syncIn, announcedIn};
 ghost use Rattle.tamburelvi.specs.Promises.{Replies, Answers};
 ghost use Rattle.model.specs.Step.{most-listened};
@@ -222,7 +223,7 @@ pub extern "C" fn tamburelvi_poll(
     choices: Choices,
     reading: u64,
 ) -> Reply
-    requires sequences { ⌜ sequences.Kept (receiverOf header .sequences) (sequences-in «data_pairs» «data_sources» «sync_pairs» «sync_sources») ⌝ }
+    requires sequences { ⌜ sequences.Kept (receiverOf header .sequences) (sequence-rows-in «data_pairs» «data_sources» «sync_pairs» «sync_sources») ⌝ }
     requires waiting { ⌜ KeptWaiting (receiverOf header .waiting .count) (now rows) (now store) ⌝ }
     ensures { λ r. ⌜ ((rest : Memory) →
         let m = sequences-lent «data_pairs» «data_sources» «sync_pairs» «sync_sources» (waiting-lent rows store (untouched rest)) in

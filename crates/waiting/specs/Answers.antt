@@ -48,19 +48,15 @@ store-told choice p ds =
     (universe-told choice p ds (waitingFor (universeOf p) ds))
 
 -- ── `rtrv_waiting_data` ──
--- what 64 records of 35 bytes and 513 values need
-abbrev pub release-length : ℕ
-release-length = most-bytes
-
 -- "output too short | 15 | needed length | all"
 unfoldable pub release-call : ℕ → ℕ → ℕ → List Dmx → List Dmx × ReleaseAnswer
 release-call room now a ds =
-    cond (ltb room release-length) (ds, OutputShort release-length)
+    cond (ltb room most-bytes) (ds, OutputShort most-bytes)
     (left a ds, Released (length (released now a ds)) (length (records (released now a ds))))
 
 -- "No stopped call writes output."
 unfoldable pub release-output : ℕ → ℕ → List Dmx → List ℕ → List ℕ
-release-output now a ds out = cond (ltb (length out) release-length) out (over (records (released now a ds)) out)
+release-output now a ds out = cond (ltb (length out) most-bytes) out (over (records (released now a ds)) out)
 
 abbrev pub releaseNumberOf : ReleaseAnswer → ℕ
 releaseNumberOf (Released r b) = 0
@@ -73,5 +69,5 @@ releaseValuesOf (OutputShort n) = number n ∷ []
 -- "output too short | 15 | needed length"; "A release answers its record count and byte length"
 unfoldable pub release-told : ℕ → ℕ → ℕ → List Dmx → ℕ × List Value
 release-told room now a ds =
-    cond (ltb room release-length) (15, number release-length ∷ [])
+    cond (ltb room most-bytes) (15, number most-bytes ∷ [])
     (0, number (length (released now a ds)) ∷ number (length (records (released now a ds))) ∷ [])

@@ -30,7 +30,7 @@ use Rattle.waiting.specs.declared.ReleaseAnswer.{ReleaseAnswer}
 use Rattle.waiting.specs.Waiting.{universeOf, addressOf, waitingFor, capacity, merged, joining, stored, cleared, fresh, swept, of-address, released, left, Within, Ordered}
 use Rattle.waiting.specs.Records.{owner, encode, records, over, most-bytes}
 use Rattle.waiting.specs.Answers.{store-call, storeNumberOf, storeValuesOf, universe-told, store-told}
-use Rattle.waiting.specs.Answers.{release-length, release-call, releaseNumberOf, releaseValuesOf, release-told}
+use Rattle.waiting.specs.Answers.{release-call, releaseNumberOf, releaseValuesOf, release-told}
 
 -- ── in order and within the counts ──
 pub within-keep : (t : Dmx → Bool) (ds : List Dmx) → Within ds → Within (keep t ds)
@@ -207,7 +207,7 @@ store-answer-told choice p ds c e =
 pub release-answer-told : (room now a : ℕ) (ds : List Dmx) (r : ReleaseAnswer) → r ≡ release-call room now a ds .1
     → (releaseNumberOf r, releaseValuesOf r) ≡ release-told room now a ds
 unfolding release-call release-told
-release-answer-told room now a ds r e = split (ltb room release-length) (λ h. cc) (λ h. cc)
+release-answer-told room now a ds r e = split (ltb room most-bytes) (λ h. cc) (λ h. cc)
 
 -- "in a step a release meets no expired data": after a sweep at its reading it drops none
 pub released-swept : (now a : ℕ) (ds : List Dmx) → released now a (swept now ds) ≡ keep (of-address a) (swept now ds)

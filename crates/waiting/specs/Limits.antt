@@ -15,7 +15,7 @@ use Rattle.waiting.specs.declared.StoreCall.the-variants.{Taken}
 use Rattle.waiting.specs.declared.ReleaseAnswer.the-variants.{Released}
 use Rattle.waiting.specs.Waiting.{universeOf, waitingFor, capacity, store-length, stored, numberOf, valuesOf, released}
 use Rattle.waiting.specs.Records.{records, most-bytes}
-use Rattle.waiting.specs.Answers.{store-call, storeNumberOf, storeValuesOf, release-length, release-call, releaseNumberOf, releaseValuesOf}
+use Rattle.waiting.specs.Answers.{store-call, storeNumberOf, storeValuesOf, release-call, releaseNumberOf, releaseValuesOf}
 
 module _ (choice : MergeChoice) (p : Dmx) (ds : List Dmx) where
   -- "64 waiting, universe not among them | 12 | nothing"
@@ -42,11 +42,11 @@ module _ (room now a : ℕ) (ds : List Dmx) where
   -- "Output under 35,072 bytes: 15", with the length needed
   pub short-under-35072 : room < 35072 → (releaseNumberOf (release-call room now a ds .1) ≡ 15) × (releaseValuesOf (release-call room now a ds .1) ≡ number 35072 ∷ [])
   unfolding release-call
-  short-under-35072 h = let f = lt-ltb room release-length (omega arith) in (cc, cc)
+  short-under-35072 h = let f = lt-ltb room most-bytes (omega arith) in (cc, cc)
 
   pub released-from-35072 : 35072 ≤ room → release-call room now a ds .1 ≡ Released (length (released now a ds)) (length (records (released now a ds)))
   unfolding release-call
-  released-from-35072 h = let f = le-ltb room release-length (omega arith) in cc
+  released-from-35072 h = let f = le-ltb room most-bytes (omega arith) in cc
 
 -- what a full table needs: 64 blocks of 513 bytes, and 64 records of 35 bytes and 513 values
 pub blocks-64 : store-length ≡ 64 * 513

@@ -1,7 +1,7 @@
 // Document 01, 'Waiting data' and 'Released bytes': what the calls over waiting data answer. What they mean stands in specs/.
 ghost use mathlib.Core.Path.{_≡_};
 ghost use Rattle.waiting.specs.Waiting.{capacity, store-length};
-ghost use Rattle.waiting.specs.Answers.{release-length};
+ghost use Rattle.waiting.specs.Records.{most-bytes};
 use merge::VALUES;
 
 // What storing answers.
@@ -51,7 +51,7 @@ pub fn store_length() -> usize
 }
 
 pub fn release_length() -> usize
-    ensures { λ r. ⌜ r ≡ release-length ⌝ }
+    ensures { λ r. ⌜ r ≡ most-bytes ⌝ }
 {
     RELEASE_LENGTH
 }

@@ -29,9 +29,8 @@ use Rattle.waiting.specs.declared.ReleaseAnswer.{ReleaseAnswer}
 use Rattle.waiting.specs.declared.ReleaseAnswer.the-variants.{Released, OutputShort}
 use Rattle.waiting_store.specs.declared.Found.the-variants.{At, Before}
 use Rattle.waiting.specs.Waiting.{universeOf, waitingFor, capacity, merged, stored, released, cleared, held, fresh, swept, left, of-address}
-use Rattle.waiting.specs.Records.{records}
-use Rattle.waiting.specs.Answers.{store-call, storeNumberOf, storeValuesOf, store-told, release-length}
-use Rattle.waiting.specs.Answers.{release-length, release-call, release-output, releaseNumberOf, releaseValuesOf, release-told}
+use Rattle.waiting.specs.Records.{records, most-bytes}
+use Rattle.waiting.specs.Answers.{store-call, storeNumberOf, storeValuesOf, store-told, release-call, release-output, releaseNumberOf, releaseValuesOf, release-told}
 use Rattle.waiting_store.specs.Written.{Writing}
 use Rattle.waiting.specs.Laws.{ordered-stored, ordered-cleared, ordered-swept, ordered-left, stored-merged, stored-refused, stored-full, stored-new, merged-universe, store-answer-told, release-answer-told}
 use Rattle.waiting_store.specs.Entries.{headOf, countOf, entries, nothing, waitingOf, Room, Kept, Lent, lent-none, lent-then, lent-room, kept-ordered, length-waiting, prefix-entries, any-entries, read-entry}
@@ -69,7 +68,7 @@ pub record ReleaseCalled (n : ℕ) (rows : List (List ℕ)) (store : List ℕ) (
   pub answers : r ≡ release-call (length out) now a (waitingOf n rows store) .1
   pub told : (releaseNumberOf r, releaseValuesOf r) ≡ release-told (length out) now a (waitingOf n rows store)
   pub written : out′ ≡ release-output now a (waitingOf n rows store) out
-  pub short-unchanged : length out < release-length → (m ≡ n) × (rows′ ≡ rows) × (store′ ≡ store) × (out′ ≡ out)
+  pub short-unchanged : length out < most-bytes → (m ≡ n) × (rows′ ≡ rows) × (store′ ≡ store) × (out′ ≡ out)
 
 -- `check_waiting_data_timeouts`; where nothing is expired, nothing is written
 pub record SweptCall (n : ℕ) (rows : List (List ℕ)) (store : List ℕ) (now : ℕ) (rows′ : List (List ℕ)) (store′ : List ℕ) (m : ℕ) : Type 0 where
@@ -288,22 +287,22 @@ module _ (n : ℕ) (rows : List (List ℕ)) (store : List ℕ) (now a : ℕ) (ou
   abbrev due : List Dmx
   due = released now a (waitingOf n rows store)
 
-  pub called-short : Kept n rows store → length out < release-length → ReleaseCalled n rows store now a out rows store out n (OutputShort release-length)
+  pub called-short : Kept n rows store → length out < most-bytes → ReleaseCalled n rows store now a out rows store out n (OutputShort most-bytes)
   called-short k h =
-      let q : release-call (length out) now a (waitingOf n rows store) ≡ (waitingOf n rows store, OutputShort release-length) = unfold release-call in (rw (lt-ltb (length out) release-length h)) in
+      let q : release-call (length out) now a (waitingOf n rows store) ≡ (waitingOf n rows store, OutputShort most-bytes) = unfold release-call in (rw (lt-ltb (length out) most-bytes h)) in
       let e = ap (λ (x : List Dmx × ReleaseAnswer). x .1) (sym q) in
       record {
         yields = unchanged n rows store (release-call (length out) now a (waitingOf n rows store) .0) k (ap (λ (x : List Dmx × ReleaseAnswer). x .0) (sym q));
         answers = e;
-        told = release-answer-told (length out) now a (waitingOf n rows store) (OutputShort release-length) e;
-        written = unfold release-output in (rw (lt-ltb (length out) release-length h));
+        told = release-answer-told (length out) now a (waitingOf n rows store) (OutputShort most-bytes) e;
+        written = unfold release-output in (rw (lt-ltb (length out) most-bytes h));
         short-unchanged = λ z. (refl, refl, refl, refl);
       }
 
-  module _ (rows′ : List (List ℕ)) (store′ out′ : List ℕ) (m : ℕ) (f : release-length ≤ length out) where
+  module _ (rows′ : List (List ℕ)) (store′ out′ : List ℕ) (m : ℕ) (f : most-bytes ≤ length out) where
     roomy-call : release-call (length out) now a (waitingOf n rows store) ≡ (left a (waitingOf n rows store), Released (length due) (length (records due)))
     unfolding release-call
-    roomy-call = rw (le-ltb (length out) release-length f)
+    roomy-call = rw (le-ltb (length out) most-bytes f)
 
     pub called-released : (c b : ℕ) → Yields rows store rows′ store′ m (left a (waitingOf n rows store)) → Writing due out out′ c b
         → ReleaseCalled n rows store now a out rows′ store′ out′ m (Released c b)
@@ -314,7 +313,7 @@ module _ (n : ℕ) (rows : List (List ℕ)) (store : List ℕ) (now a : ℕ) (ou
           yields = subst (λ (ds : List Dmx). Yields rows store rows′ store′ m ds) (ap (λ (x : List Dmx × ReleaseAnswer). x .0) (sym q)) y;
           answers = e;
           told = release-answer-told (length out) now a (waitingOf n rows store) (Released c b) e;
-          written = unfold release-output in (rw (le-ltb (length out) release-length f) (w .written));
+          written = unfold release-output in (rw (le-ltb (length out) most-bytes f) (w .written));
           short-unchanged = λ z. absurd (omega arith);
         }
 
@@ -329,7 +328,7 @@ module _ (n : ℕ) (rows : List (List ℕ)) (store : List ℕ) (now a : ℕ) (ou
       pub released-writes : Writing due out out′ (length due) (length (records due))
       unfolding release-output
       released-writes = record {
-        written = s .written ∙ (rw (le-ltb (length out) release-length f));
+        written = s .written ∙ (rw (le-ltb (length out) most-bytes f));
         record-count = refl;
         byte-count = refl;
       }

@@ -7,7 +7,7 @@ ghost use Rattle.merge.specs.Merge.{htp-merge, preferred, most-values};
 ghost use Rattle.merge.specs.Views.{dmx};
 ghost use Rattle.waiting.specs.Waiting.{capacity, merged, cleared};
 ghost use Rattle.waiting_store.specs.Entries.{nothing, waitingOf, Room, Kept};
-ghost use Rattle.waiting_store.specs.Lent.{entriesIn, waitingIn, Become};
+ghost use Rattle.waiting_store.specs.Contracts.{entries-before, waiting-before, Become};
 ghost use Rattle.waiting_calls.specs.Joins.{JoinedIn};
 ghost use Rattle.waiting_calls.specs.Calls.{Empty, YieldsIn, StoreCalled, ReleaseCalled, SweptCall};
 use merge::Choice;
@@ -36,8 +36,8 @@ use waiting_store::write_release;
 // The packet joins the entry at place i by priority: that entry stays, or the packet takes its place.
 fn choose_entry(rows: &mut EntryRows, store: &mut [u8], i: usize, packet: DmxData, values: &[u8])
     requires { ⌜ Room (now rows) (now store) × (i < capacity) × (length (now values) ≤ most-values) ⌝ }
-    ensures { λ r. let es = entriesIn rows store in
-        ⌜ Become rows store (set (es .entry) i (preferred (getD (es .entry) i nothing) (dmx packet (now (values .entry))))) ⌝ }
+    ensures { λ r. let es = entries-before rows store in
+        ⌜ Become rows store (set es i (preferred (getD es i nothing) (dmx packet (now (values .entry))))) ⌝ }
 {
     let row = rows[i];
     let e = head_of(row);
@@ -62,8 +62,8 @@ fn blend_entry(
     values: &[u8],
 ) -> bool
     requires { ⌜ Room (now rows) (now store) × (i < capacity) × (length (now values) ≤ most-values) ⌝ }
-    ensures { λ r. let es = entriesIn rows store in
-        ⌜ JoinedIn rows store i (htp-merge (getD (es .entry) i nothing) (dmx packet (now (values .entry)))) r ⌝ }
+    ensures { λ r. let es = entries-before rows store in
+        ⌜ JoinedIn rows store i (htp-merge (getD es i nothing) (dmx packet (now (values .entry)))) r ⌝ }
 {
     let row = rows[i];
     let e = head_of(row);
@@ -91,8 +91,8 @@ fn join_entry(
     values: &[u8],
 ) -> bool
     requires { ⌜ Room (now rows) (now store) × (i < capacity) × (length (now values) ≤ most-values) ⌝ }
-    ensures { λ r. let es = entriesIn rows store in
-        ⌜ JoinedIn rows store i (merged choice (getD (es .entry) i nothing) (dmx packet (now (values .entry)))) r ⌝ }
+    ensures { λ r. let es = entries-before rows store in
+        ⌜ JoinedIn rows store i (merged choice (getD es i nothing) (dmx packet (now (values .entry)))) r ⌝ }
 {
     match choice {
         MergeChoice::DiscardLowestPriorityThenPrevious => {
@@ -198,10 +198,10 @@ impl Waiting {
         universe: u16,
     ) -> Cleared
         requires { ⌜ Kept (self .count) (now rows) (now store) ⌝ }
-        ensures view { λ r. let ds = waitingIn (self .count) (r .waiting .count) rows store in
-            ⌜ YieldsIn rows store (r .waiting .count) (cleared universe (ds .entry) .0) ⌝ }
-        ensures answer { λ r. let ds = waitingIn (self .count) (r .waiting .count) rows store in
-            ⌜ r .held ≡ cleared universe (ds .entry) .1 ⌝ }
+        ensures view { λ r. let ds = waiting-before (self .count) rows store in
+            ⌜ YieldsIn rows store (r .waiting .count) (cleared universe ds .0) ⌝ }
+        ensures answer { λ r. let ds = waiting-before (self .count) rows store in
+            ⌜ r .held ≡ cleared universe ds .1 ⌝ }
     {
         let n = self.count;
         match find_universe(&*rows, n, universe) {

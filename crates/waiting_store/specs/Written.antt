@@ -18,9 +18,8 @@ use Rattle.merge.specs.declared.DmxData.{DmxData}
 use Rattle.merge.specs.Merge.{Dmx}
 use Rattle.merge.specs.Views.{dmx}
 use Rattle.waiting.specs.Waiting.{fresh, of-address, released, capacity}
-use Rattle.waiting.specs.Records.{bit, owner, encode, records, over}
+use Rattle.waiting.specs.Records.{bit, owner, encode, records, over, most-bytes}
 use Rattle.waiting.specs.Laws.{length-encode, records-within, within-keep}
-use Rattle.waiting.specs.Answers.{release-length}
 use Rattle.waiting_store.specs.Entries.{entries, Room, within-entries}
 
 -- ── the parts of a record ──
@@ -174,7 +173,7 @@ module _ (now a : ℕ) where
         })
 
 -- the output has room for all that the entries may release
-pub release-room : (now a n : ℕ) (rows : List (List ℕ)) (store out : List ℕ) → Room rows store → n ≤ capacity → release-length ≤ length out
+pub release-room : (now a n : ℕ) (rows : List (List ℕ)) (store out : List ℕ) → Room rows store → n ≤ capacity → most-bytes ≤ length out
     → length (records (keep (dueOf now a) (take n (entries rows store)))) ≤ length out
 release-room now a n rows store out r h l =
     let ds = take n (entries rows store) in

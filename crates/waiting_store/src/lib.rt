@@ -13,11 +13,10 @@ ghost use Rattle.laws.specs.Parts.{pasted};
 ghost use Rattle.merge.specs.Merge.{Dmx, most-values};
 ghost use Rattle.merge.specs.Views.{dmx};
 ghost use Rattle.waiting.specs.Waiting.{capacity, released};
-ghost use Rattle.waiting.specs.Records.{bit};
-ghost use Rattle.waiting.specs.Answers.{release-length};
+ghost use Rattle.waiting.specs.Records.{bit, most-bytes};
 ghost use Rattle.waiting_store.specs.Entries.{headOf, countOf, ownerOf, rowOf, nothing, Room};
 ghost use Rattle.waiting_store.specs.Posts.{Rowed, below, Apart, retained, Sought};
-ghost use Rattle.waiting_store.specs.Lent.{entriesIn, Become, FirstBecome};
+ghost use Rattle.waiting_store.specs.Contracts.{entries-before, Become, FirstBecome};
 ghost use Rattle.waiting_store.specs.Written.{frontBytes, backBytes, due, Laid, Writing};
 use merge::DmxData;
 use merge::SourceCid;
@@ -137,8 +136,8 @@ fn place_of(rows: &EntryRows, n: usize, universe: u16) -> usize
 // For `waiting_calls`.
 pub fn write_entry(rows: &mut EntryRows, store: &mut [u8], i: usize, d: DmxData, values: &[u8])
     requires { ⌜ Room (now rows) (now store) × (i < capacity) × (length (now values) ≤ most-values) ⌝ }
-    ensures { λ r. let es = entriesIn rows store in
-        ⌜ Become rows store (set (es .entry) i (dmx d (now (values .entry)))) ⌝ }
+    ensures { λ r. let es = entries-before rows store in
+        ⌜ Become rows store (set es i (dmx d (now (values .entry)))) ⌝ }
 {
     let row = row_of(d, values.len());
     rows[i] = row;
@@ -148,8 +147,8 @@ pub fn write_entry(rows: &mut EntryRows, store: &mut [u8], i: usize, d: DmxData,
 // The entry at one place put at another, too.
 fn move_entry(rows: &mut EntryRows, store: &mut [u8], from: usize, to: usize)
     requires { ⌜ Room (now rows) (now store) × (from < capacity) × (to < capacity) × (from ≢ to) ⌝ }
-    ensures { λ r. let es = entriesIn rows store in
-        ⌜ Become rows store (set (es .entry) to (getD (es .entry) from nothing)) ⌝ }
+    ensures { λ r. let es = entries-before rows store in
+        ⌜ Become rows store (set es to (getD es from nothing)) ⌝ }
 {
     let row = rows[from];
     let n = count_of(row);
@@ -161,8 +160,8 @@ fn move_entry(rows: &mut EntryRows, store: &mut [u8], from: usize, to: usize)
 // For `waiting_calls`.
 pub fn remove_at(rows: &mut EntryRows, store: &mut [u8], n: usize, i: usize)
     requires { ⌜ Room (now rows) (now store) × (i < n) × (n ≤ capacity) ⌝ }
-    ensures { λ r. let es = entriesIn rows store in
-        ⌜ FirstBecome rows store (n - 1) (removeAt i (take n (es .entry))) ⌝ }
+    ensures { λ r. let es = entries-before rows store in
+        ⌜ FirstBecome rows store (n - 1) (removeAt i (take n es)) ⌝ }
 {
     let mut w = i;
     while w + 1 < n {
@@ -182,8 +181,8 @@ pub fn insert_at(
     values: &[u8],
 )
     requires { ⌜ Room (now rows) (now store) × (i ≤ n) × (n < capacity) × (length (now values) ≤ most-values) ⌝ }
-    ensures { λ r. let es = entriesIn rows store in
-        ⌜ FirstBecome rows store (n + 1) (insertAt i (dmx d (now (values .entry))) (take n (es .entry))) ⌝ }
+    ensures { λ r. let es = entries-before rows store in
+        ⌜ FirstBecome rows store (n + 1) (insertAt i (dmx d (now (values .entry))) (take n es)) ⌝ }
 {
     let mut j = n;
     while i < j {
@@ -196,8 +195,8 @@ pub fn insert_at(
 // An entry that a pass keeps moves down over those it gave up, if there are any.
 fn keep_entry(rows: &mut EntryRows, store: &mut [u8], from: usize, to: usize)
     requires { ⌜ Room (now rows) (now store) × (to ≤ from) × (from < capacity) ⌝ }
-    ensures { λ r. let es = entriesIn rows store in
-        ⌜ Become rows store (set (es .entry) to (getD (es .entry) from nothing)) ⌝ }
+    ensures { λ r. let es = entries-before rows store in
+        ⌜ Become rows store (set es to (getD es from nothing)) ⌝ }
 {
     if to < from {
         move_entry(rows, store, from, to);
@@ -248,8 +247,8 @@ pub fn any_dropped(rows: &EntryRows, n: usize, test: Retain) -> bool
 // For `waiting_calls`.
 pub fn compact(rows: &mut EntryRows, store: &mut [u8], n: usize, test: Retain) -> usize
     requires { ⌜ Room (now rows) (now store) × (n ≤ capacity) ⌝ }
-    ensures { λ r. let es = entriesIn rows store in
-        ⌜ (r ≤ n) × FirstBecome rows store r (keep (λ (e : Dmx). retained test (e .head)) (take n (es .entry))) ⌝ }
+    ensures { λ r. let es = entries-before rows store in
+        ⌜ (r ≤ n) × FirstBecome rows store r (keep (λ (e : Dmx). retained test (e .head)) (take n es)) ⌝ }
 {
     let mut kept: usize = 0;
     let mut i: usize = 0;
@@ -406,9 +405,9 @@ pub fn write_release(
     reading: u64,
     out: &mut [u8],
 ) -> Written
-    requires { ⌜ Room (now rows) (now store) × (n ≤ capacity) × (release-length ≤ length (now out)) ⌝ }
-    ensures { λ r. let es = entriesIn rows store in
-        ⌜ Writing (released reading address (take n (es .entry))) (now (out .entry)) (now (out .exit)) (r .records) (r .bytes) ⌝ }
+    requires { ⌜ Room (now rows) (now store) × (n ≤ capacity) × (most-bytes ≤ length (now out)) ⌝ }
+    ensures { λ r. let es = entries-before rows store in
+        ⌜ Writing (released reading address (take n es)) (now (out .entry)) (now (out .exit)) (r .records) (r .bytes) ⌝ }
 {
     let mut i: usize = 0;
     let mut at: usize = 0;

@@ -12,6 +12,5 @@
 //! Each line keeps its place. What these rules and the scanner do not know is refused, with file and line.
 
 pub mod erase;
-pub mod header;
 pub mod package;
 pub mod scan;

@@ -1,5 +1,5 @@
 //! eraser package REPOSITORY DIR: the package's sources, to DIR/src. eraser ghost REPOSITORY DIR: the sources without ghost text, to DIR/crates.
-//! eraser casts REPOSITORY: each `as usize` of the sources. eraser header FILE: the C header for every target. Status 1 where a source is refused, 2 where something cannot be read or written.
+//! eraser casts REPOSITORY: each `as usize` of the sources. Status 1 where a source is refused, 2 where something cannot be read or written.
 
 use eraser::package;
 use std::collections::BTreeMap;
@@ -48,16 +48,12 @@ fn run(words: &[&str]) -> Result<(), (u8, String)> {
                 println!("{file}:{line}: {function}: {text}");
             }
         }
-        ["header", file] => {
-            let text = std::fs::read_to_string(file)
-                .map_err(|e| (2, format!("{file}: cannot be read: {e}")))?;
-            print!("{}", eraser::header::header(file, &text).map_err(refused)?);
+        _ => {
+            return Err((
+                2,
+                "eraser package REPOSITORY DIR | ghost REPOSITORY DIR | casts REPOSITORY".into(),
+            ))
         }
-        _ => return Err((
-            2,
-            "eraser package REPOSITORY DIR | ghost REPOSITORY DIR | casts REPOSITORY | header FILE"
-                .into(),
-        )),
     }
     Ok(())
 }

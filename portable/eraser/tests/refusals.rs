@@ -1,22 +1,14 @@
 //! Each refusal, with its line.
 
-use eraser::erase::{erase, without_ghost, Place};
+mod own;
+
+use eraser::erase::without_ghost;
 use eraser::package::{package, read, Source, Sources};
 use eraser::scan::{Refusal, KEYWORDS, REFUSED_WORDS};
 use std::path::PathBuf;
 
 fn refusal(text: &str) -> Refusal {
-    let (uses, crates) = (
-        vec!["rules".to_string()],
-        vec!["rules".to_string(), "own".to_string(), "other".to_string()],
-    );
-    let place = Place {
-        file: "own.rt",
-        krate: "own",
-        uses: &uses,
-        crates: &crates,
-    };
-    match erase(&place, text) {
+    match own::erased(text) {
         Ok(e) => panic!("not refused: {}", e.text),
         Err(r) => r,
     }

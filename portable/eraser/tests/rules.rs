@@ -1,19 +1,11 @@
 //! Each rule, by what it makes of a source.
 
-use eraser::erase::{erase, without_ghost, Erased, Place};
+mod own;
+
+use eraser::erase::{without_ghost, Erased};
 
 fn erased(text: &str) -> Erased {
-    let (uses, crates) = (
-        vec!["rules".to_string()],
-        vec!["rules".to_string(), "own".to_string(), "other".to_string()],
-    );
-    let place = Place {
-        file: "own.rt",
-        krate: "own",
-        uses: &uses,
-        crates: &crates,
-    };
-    erase(&place, text).unwrap_or_else(|e| panic!("{e}"))
+    own::erased(text).unwrap_or_else(|e| panic!("{e}"))
 }
 
 fn body(text: &str) -> String {

@@ -8,8 +8,8 @@ use Rattle.pair_tables.specs.declared.PairTable.{PairTable}
 use Rattle.pair_tables.specs.View.{tableOf, Follows}
 
 -- the table as the call finds it
-abbrev pub at-entry : PairTable → Part Rows → Part Rows → Table
-at-entry t pairs sources = tableOf t (now (pairs .entry)) (now (sources .entry))
+abbrev pub table-before : PairTable → Part Rows → Part Rows → Table
+table-before t pairs sources = tableOf t (now (pairs .entry)) (now (sources .entry))
 
 -- the table as the call leaves it, and the answer, are what the definition says
 abbrev pub Leaves : {A : Type 0} → PairTable → Part Rows → Part Rows → A → Table × A → Type 0

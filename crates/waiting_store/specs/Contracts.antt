@@ -3,25 +3,18 @@
 use mathlib.Core.List.{List}
 use Prim.Native.Nat.{ℕ}
 use denote.Ref.{now}
-use denote.Triple.Both.{Both}
 use Rattle.laws.specs.Lent.{Part}
 use Rattle.merge.specs.Merge.{Dmx}
 use Rattle.waiting_store.specs.Entries.{entries, waitingOf}
 use Rattle.waiting_store.specs.Posts.{Changed, Held}
 
--- all entries as the call finds them, and as it leaves them
-abbrev pub entriesIn : Part (List (List ℕ)) → Part (List ℕ) → Both (List Dmx) (List Dmx)
-entriesIn rows store = record {
-  entry = entries (now (rows .entry)) (now (store .entry));
-  exit = entries (now (rows .exit)) (now (store .exit));
-}
+-- all entries as the call finds them
+abbrev pub entries-before : Part (List (List ℕ)) → Part (List ℕ) → List Dmx
+entries-before rows store = entries (now (rows .entry)) (now (store .entry))
 
--- what waits when the call begins, and when it ends: the first n entries, and the first m
-abbrev pub waitingIn : ℕ → ℕ → Part (List (List ℕ)) → Part (List ℕ) → Both (List Dmx) (List Dmx)
-waitingIn n m rows store = record {
-  entry = waitingOf n (now (rows .entry)) (now (store .entry));
-  exit = waitingOf m (now (rows .exit)) (now (store .exit));
-}
+-- what waits as the call finds it: the first n entries
+abbrev pub waiting-before : ℕ → Part (List (List ℕ)) → Part (List ℕ) → List Dmx
+waiting-before n rows store = waitingOf n (now (rows .entry)) (now (store .entry))
 
 -- the entries become ds
 abbrev pub Become : Part (List (List ℕ)) → Part (List ℕ) → List Dmx → Type 0

@@ -6,13 +6,10 @@ use denote.Ref.{RefT, now}
 use denote.Triple.Both.{Both}
 use Rattle.laws.specs.Lent.{Part}
 use Rattle.pair_rows.specs.View.{Rows}
-use Rattle.sequences.specs.View as sequences
+use Rattle.sequences.specs.Contracts.{sequence-rows-in}
 use Rattle.receiver.specs.View.{Memory, memory, with-sequence-rows, with-sync-rows, with-waiting-rows, with-listened-rows, with-discovery-rows}
 
 -- ── as a call finds it ──
-abbrev pub sequences-in : RefT Rows → RefT Rows → RefT Rows → RefT Rows → sequences.Lent
-sequences-in dp ds sp ss = sequences.lent (now dp) (now ds) (now sp) (now ss)
-
 -- the whole memory
 abbrev pub lent-in : RefT Rows → RefT Rows → RefT Rows → RefT Rows → RefT Rows → RefT (List ℕ) → RefT (List ℕ) → RefT Rows → RefT Rows → RefT Rows → RefT (List ℕ) → Memory
 lent-in dp ds sp ss rows store heard sources names pages universes =
@@ -32,8 +29,8 @@ lent dp ds sp ss rows store heard sources names pages universes = record {
 -- a call that is lent some parts only, in whatever else the caller holds
 abbrev pub sequences-lent : Part Rows → Part Rows → Part Rows → Part Rows → Lent → Lent
 sequences-lent dp ds sp ss m = record {
-  entry = with-sequence-rows (sequences-in (dp .entry) (ds .entry) (sp .entry) (ss .entry)) (m .entry);
-  exit = with-sequence-rows (sequences-in (dp .exit) (ds .exit) (sp .exit) (ss .exit)) (m .exit);
+  entry = with-sequence-rows (sequence-rows-in (dp .entry) (ds .entry) (sp .entry) (ss .entry)) (m .entry);
+  exit = with-sequence-rows (sequence-rows-in (dp .exit) (ds .exit) (sp .exit) (ss .exit)) (m .exit);
 }
 
 abbrev pub sync-lent : Part Rows → Part Rows → Lent → Lent
