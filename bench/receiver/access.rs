@@ -16,20 +16,21 @@ fn released(data: Option<Vec<DMXData>>) -> (usize, usize) {
 }
 
 impl Published {
-    pub fn new(universes: &[u16]) -> Published {
+    pub fn new(universes: &[u16], announced: bool) -> Published {
         let address = SocketAddr::from(([127, 0, 0, 1], ACN_SDT_MULTICAST_PORT));
         let mut receiver = SacnReceiver::with_ip(address, None).expect("a receiver");
         receiver
             .listen_universes(universes)
             .expect("legal universes");
+        receiver.set_announce_timeout(announced);
         Published(receiver)
     }
 
-    fn poll(&mut self) {
+    pub fn poll(&mut self) {
         let r = &mut self.0;
         r.sequences
             .check_timeouts(r.announce_timeout)
-            .expect("no timeout is announced");
+            .expect("nothing times out");
         r.check_waiting_data_timeouts();
     }
 
@@ -81,5 +82,11 @@ impl Published {
 
     pub fn reset(&mut self) {
         self.0.reset_sources();
+    }
+
+    /// How many pairs have sent data, and how many universes wait.
+    pub fn held(&self) -> (usize, usize) {
+        let pairs = self.0.sequences.data_sequences.values();
+        (pairs.map(HashMap::len).sum(), self.0.waiting_data.len())
     }
 }

@@ -1,19 +1,20 @@
 -- One law for each return of the parts of a step.
 -- Assumes nothing.
 use mathlib.Core.Path.{_≡_, refl, sym, ap, _∙_, subst}
-use mathlib.Core.Bool.{true, false}
+use mathlib.Core.Bool.{true, false, _&&_}
 use mathlib.Core.List.{List, [], _∷_, append-nil}
 use mathlib.Core.Logic.{_≢_}
 use mathlib.Core.Option.{Option, none, some}
 use Prim.Native.Nat.{ℕ, _≤_}
 use native.Mathlib.Omega.{arith}
-use Rattle.laws.specs.Cases.{split, found}
+use Rattle.laws.specs.Cases.{split, found, clash}
 use native.Mathlib.Nat.{zero-add}
 use lib.Dec.{eqb, ltb}
 use lib.ListN.{length}
-use borrow.Author.Tests.{eq-eqb, ne-eqb}
+use borrow.Author.Tests.{eqb-true, eq-eqb, ne-eqb}
 use Rattle.laws.specs.Parts.{pasted-front}
 use Rattle.settings.specs.declared.Settings.{Settings}
+use Rattle.settings.specs.declared.SourceLimit.{SourceLimit}
 use Rattle.merge.specs.Merge.{Dmx}
 use Rattle.waiting.specs.declared.StoreAnswer.{StoreAnswer}
 use Rattle.waiting.specs.declared.StoreAnswer.the-variants as storing
@@ -28,7 +29,7 @@ use Rattle.waiting.specs.Records.{encode, records, over, most-bytes}
 use Rattle.waiting_store.specs.Entries.{waitingOf, lent-none}
 use Rattle.waiting_store.specs.Entries as entries
 use Rattle.waiting_store.specs.Written.{Laid, Writing}
-use Rattle.waiting_calls.specs.Calls.{Yields, StoredCall, StoreCalled, taken-is, taken-call, ReleaseCalled, released-is, released-leaves, released-writes, SweptCall}
+use Rattle.waiting_calls.specs.Calls.{Yields, StoredCall, StoreCalled, taken-is, taken-call, ReleaseCalled, released-is, released-leaves, released-writes, SweptCall, none-swept, none-cleared}
 use Rattle.model.specs.Answer.{stepNumber}
 use Rattle.listening.specs.declared.ListenDone.{ListenDone}
 use Rattle.listening.specs.View.{listenedOf, Listens}
@@ -50,12 +51,14 @@ use Rattle.pairs.specs.declared.SweepAnswer.{SweepAnswer}
 use Rattle.pairs.specs.declared.SweepAnswer.the-variants.{Quiet, TimedOut}
 use Rattle.sequences.specs.declared.SequenceNumbering.{SequenceNumbering}
 use Rattle.sequences.specs.View as sequences
-use Rattle.sequences.specs.Laws.{answer-some, answer-none}
+use Rattle.sequences.specs.Laws.{answer-some, answer-none, checks-nothing}
 use Rattle.sequences.specs.Sequences.{Numbers, numbers, timeouts, timeouts-data, timeouts-sync}
+use Rattle.pair_tables.specs.declared.PairTable.{PairTable}
 use Rattle.pair_tables.specs.View as tables
 use Rattle.pair_rows.specs.View.{Rows}
 use Rattle.packets.specs.View.{packetOf}
-use Rattle.arrivals.specs.View.{dataOf, Lent, lentOf, waits, hears, Releases, Ready, Holds, Accepts, Counted, counts, Tells, storeSaid, releaseSaid, Arrives, Synchronises, Polls}
+use Rattle.arrivals.specs.View.{dataOf, Lent, lentOf, waits, hears, Releases, Ready, Holds, Accepts, Counted, counts, rowsOf, Tells, storeSaid, releaseSaid, Arrives, Synchronises, Polls, Shortens, idle}
+use Rattle.arrivals.specs.declared.Short.the-variants as short
 
 -- ── the answers of the parts, told by the step ──
 pub store-tells : (c : StoreCall) → Tells (storeSaid c) (storeNumberOf c) (storeValuesOf c)
@@ -251,6 +254,27 @@ module _ (S : Settings) (now : ℕ) (d : model.DataPacket) (k k′ : Counted) (a
     ready = record { kept-waiting = kw; lent-waiting = lent-none (m .rows) (m .store); kept-listened = kl };
   }
 
+-- ── the short way ──
+module _ (S : Settings) (now : ℕ) (p : DataPacket) (vs : List ℕ) (t : PairTable) (n : ℕ) (pairs sources : Rows) (out : List ℕ) where
+  pub shortens : (pairs′ : Rows) (out′ : List ℕ) (r : ℕ) → p .address ≡ 0 → n ≡ 0
+      → ((limit : SourceLimit) → tables.Follows (tables.reading-noted now t) pairs′ sources checked.Accepted (check limit (S .«announce_timeout») (data-pair now (packetOf p vs)) (tables.tableOf t pairs sources)))
+      → Laid (dataOf p now) vs out out′ 0 r → Shortens S now (packetOf p vs) t n pairs sources out pairs′ out′ (short.Released r)
+  shortens pairs′ out′ r z e f l = record {
+    arrives = λ b g m c kw kl.
+        let q : r ≡ b = cc in
+        let w = releases now p vs (m .count) (m .count) (m .rows) (m .rows) (m .store) (m .store) out out′ r (none-cleared (m .count) (m .rows) (m .store) (c ∙ e) kw (p .universe)) l in
+        subst (λ (x : ℕ). Arrives S now (packetOf p vs) (rowsOf t pairs sources) m out (rowsOf (tables.reading-noted now t) pairs′ sources) m out′ (says.Released 1 x)) q
+        (arrives-accepted S now (packetOf p vs) (rowsOf t pairs sources) (rowsOf (tables.reading-noted now t) pairs′ sources) checked.Accepted (f (S .«source_limit»)) m m out out′ (says.Released 1 r) refl
+        (accepts-released S now (packetOf p vs) m out (m .count) (m .rows) (m .store) out′ r z kl w));
+    left = λ g. let x : _≡_ {A = ℕ} 0 1 = cc in absurd (omega arith);
+  }
+
+  pub shortens-nothing : (pairs′ : Rows) → pairs′ ≡ pairs → Shortens S now (packetOf p vs) t n pairs sources out pairs′ out short.Left
+  shortens-nothing pairs′ e = record {
+    arrives = λ b g. let x : _≡_ {A = ℕ} 0 1 = cc in absurd (omega arith);
+    left = λ g. (e, refl);
+  }
+
 -- ── synchronisation ──
 release-said : (ds : List Dmx) (s : State) (n b : ℕ) → n ≡ length ds → b ≡ length (records ds)
     → release ds s ≡ record { state = s; answer = releaseSaid (releasing.Released n b); released = ds }
@@ -378,3 +402,12 @@ module _ (S : Settings) (now : ℕ) (q : SequenceNumbering) (m : sequences.Lent)
         kept-waiting = c .yields .kept;
         lent-waiting = c .yields .lent;
       }
+
+-- an idle receiver: the poll leaves all
+pub polls-idle : (S : Settings) (now : ℕ) (q : SequenceNumbering) (m : sequences.Lent) (n : ℕ) (rows : Rows) (store : List ℕ) → idle S now q n ≡ true → sequences.Kept q m → entries.Kept n rows store
+    → Polls S now q m n rows store q m n rows store Quiet
+polls-idle S now q m n rows store h k kw =
+    let w : sequences.quiet (S .«announce_timeout») now q ≡ true = split (sequences.quiet (S .«announce_timeout») now q) (λ e. e) (λ e. clash h (rw e)) in
+    let z : eqb n 0 ≡ true = split (eqb n 0) (λ e. e) (λ e. clash h (rw (w, e))) in
+    polls-quiet S now q m n rows store q m Quiet (checks-nothing q m k (S .«announce_timeout») now w) n rows store refl
+    (none-swept n rows store (eqb-true n 0 z) kw now)

@@ -2,7 +2,7 @@
 -- Assumes nothing.
 use mathlib.Core.Path.{_≡_}
 use mathlib.Core.List.{List, [], _∷_}
-use mathlib.Core.Bool.{cond}
+use mathlib.Core.Bool.{Bool, cond, _&&_}
 use mathlib.Core.Option.{Option}
 use Prim.Native.Nat.{ℕ}
 use lib.Dec.{eqb}
@@ -41,6 +41,8 @@ use Rattle.model.specs.State.{State}
 use Rattle.model.specs.Step.{with-data, with-sync, with-waiting, with-listened, dmx, kept, synchronised, accepted, data-arrival, sync-arrival, poll}
 use Rattle.packets.specs.declared.DataPacket.{DataPacket}
 use Rattle.packets.specs.declared.SyncPacket.{SyncPacket}
+use Rattle.arrivals.specs.declared.Short.{Short}
+use Rattle.arrivals.specs.declared.Short.the-variants as short
 
 abbrev pub dataOf : DataPacket → ℕ → DmxData
 dataOf p now = record {
@@ -153,3 +155,13 @@ pub record Polls (S : Settings) (now : ℕ) (q : SequenceNumbering) (m : sequenc
   pub kept : sequences.Kept q′ m′
   pub kept-waiting : waiting.Kept n′ rows′ store′
   pub lent-waiting : waiting.Lent rows store rows′ store′
+
+-- the short way: the packet arrives and is released while nothing waits, whatever waiting rows and listened universes there are, and those stay; or all is left
+pub record Shortens (S : Settings) (now : ℕ) (d : model.DataPacket) (t : PairTable) (n : ℕ) (pairs sources : Rows) (out : List ℕ) (pairs′ : Rows) (out′ : List ℕ) (answer : Short) : Type 0 where
+  pub arrives : (bytes : ℕ) → answer ≡ short.Released bytes → (m : Lent) → m .count ≡ n → waiting.Kept (m .count) (m .rows) (m .store) → listening.Kept (m .listened) (m .heard)
+      → Arrives S now d (rowsOf t pairs sources) m out (rowsOf (tables.reading-noted now t) pairs′ sources) m out′ (says.Released 1 bytes)
+  pub left : answer ≡ short.Left → (pairs′ ≡ pairs) × (out′ ≡ out)
+
+-- the notes of both tables are quiet, and nothing waits
+abbrev pub idle : Settings → ℕ → SequenceNumbering → ℕ → Bool
+idle S now q n = sequences.quiet (S .«announce_timeout») now q && eqb n 0

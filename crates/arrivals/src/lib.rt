@@ -13,7 +13,7 @@ ghost use Rattle.sequences.specs.Contracts.{sequence-rows-in, sequence-rows};
 ghost use Rattle.sequences.specs.View.{Kept as SequencesKept};
 ghost use Rattle.packets.specs.View.{packetOf, syncOf};
 ghost use Rattle.arrivals.specs.View.{dataOf, lentOf, rowsOf, storeSaid, releaseSaid};
-ghost use Rattle.arrivals.specs.View.{Tells, Releases, Holds, Accepts, Arrives, Synchronises, Polls};
+ghost use Rattle.arrivals.specs.View.{Tells, Releases, Holds, Accepts, Arrives, Synchronises, Polls, Shortens, idle};
 ghost use Rattle.waiting.specs.Records.{most-bytes};
 ghost use Rattle.merge.specs.Merge.{most-values};
 use listening::Listened;
@@ -202,6 +202,51 @@ fn accept_data(
     )
 }
 
+// What the short way makes of a data packet: its record's length, or nothing.
+pub enum Short {
+    Released(usize),
+    Left,
+}
+
+// The commonest packet: address 0, nothing waits, its pair is held and its number follows. Its record is written, and `note_reading` gives the table's header. Otherwise all is left.
+pub fn release_known(
+    data: DataTable,
+    waiting: Waiting,
+    pairs: &mut PairRows,
+    sources: &SourceRows,
+    settings: Settings,
+    reading: u64,
+    packet: DataPacket,
+    values: &[u8],
+    out: &mut [u8],
+) -> Short
+    requires { ⌜ TableKept («data» .table) (now pairs) (now sources) × (most-bytes ≤ length (now out)) × (length (now values) ≤ most-values) ⌝ }
+    ensures { λ r. ⌜ Shortens settings reading (packetOf packet (now (values .entry))) («data» .table) (waiting .count)
+        (now (pairs .entry)) (now (sources .entry)) (now (out .entry)) (now (pairs .exit)) (now (out .exit)) r ⌝ }
+{
+    if packet.address != 0 {
+        return Short::Left;
+    }
+    if waiting.count != 0 {
+        return Short::Left;
+    }
+    let sequence = packet.sequence;
+    if data.renew(
+        &mut *pairs,
+        sources,
+        settings.announce_timeout,
+        packet.cid,
+        packet.universe,
+        sequence,
+        reading,
+    ) {
+        let d = dmx_data(packet, reading);
+        let bytes = write_record(&mut *out, 0, d, values);
+        return Short::Released(bytes);
+    }
+    Short::Left
+}
+
 pub struct DataArrived {
     pub data: DataTable,
     pub waiting: Waiting,
@@ -376,6 +421,21 @@ pub fn arrive_sync(
     }
 }
 
+// By the notes of both tables no pair goes, and nothing waits: a poll changes nothing.
+pub fn is_idle(
+    sequences: SequenceNumbering,
+    waiting: Waiting,
+    settings: Settings,
+    reading: u64,
+) -> bool
+    ensures { λ r. ⌜ r ≡ idle settings reading sequences (waiting .count) ⌝ }
+{
+    if sequences.is_quiet(settings.announce_timeout, reading) {
+        return waiting.count == 0;
+    }
+    false
+}
+
 // Both pair tables are swept, then the waiting data; number 4 ends it.
 pub fn poll(
     sequences: SequenceNumbering,
@@ -397,6 +457,14 @@ pub fn poll(
         sequences (m .entry) (waiting .count) (now (rows .entry)) (now (store .entry))
         (r .sequences) (m .exit) (r .waiting .count) (now (rows .exit)) (now (store .exit)) (r .answer) ⌝ }
 {
+    if sequences.is_quiet(settings.announce_timeout, reading) {
+        let left = waiting.check_waiting_data_timeouts(rows, store, reading);
+        return Polled {
+            sequences: sequences,
+            waiting: left,
+            answer: SweepAnswer::Quiet,
+        };
+    }
     let t = sequences.check_timeouts(
         data_pairs,
         data_sources,

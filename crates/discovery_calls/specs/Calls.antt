@@ -1,6 +1,6 @@
 -- What each step of a call makes of the sources seen: a source begun, extended, listed.
 -- Assumes nothing.
-use mathlib.Core.Path.{_≡_, refl, sym, ap, _∙_}
+use mathlib.Core.Path.{_≡_, refl, sym, ap, subst, _∙_}
 use mathlib.Core.Bool.{true, false, not}
 use mathlib.Core.Option.{none, some}
 use mathlib.Core.List.{List, [], _∷_, _++_, map}
@@ -19,7 +19,7 @@ use Rattle.discovery_calls.specs.declared.Discovery.{Discovery}
 use Rattle.discovery.specs.Discovery.{Page, Source, Discovered, Announcement, lookup, drop-source, relisted, updated, pageOf, extended, begun, extend, list, noting, page-count, pages-held, capacity, Rising, Ordered}
 use Rattle.discovery.specs.Laws.{lookup-none, none-lookup, lookup-cid}
 use Rattle.discovery.specs.Kept.{Fitting, proper-begun, proper-extended, proper-lookup, sorted-added, ordered-noting, length-extended, lookup-extended, pages-of, count-drop, count-append, once-drop, once-append, all-keep, all-append}
-use Rattle.discovery_rows.specs.Store.{Head, Leaf, heads-of, pages-at, sources-at, viewOf, any-sources, renewed, keep-single}
+use Rattle.discovery_rows.specs.Store.{Head, Leaf, heads-of, pages-at, sources-at, viewOf, any-sources, lookup-pages, renewed, keep-single}
 use Rattle.discovery_rows.specs.Leaves.{behind, turned}
 use Rattle.discovery_calls.specs.Moves.{with-source, leafOf, view-with, sound-with, others, listed-head, view-turned, sound-turned, heads-turned, grown, view-extended, sound-extended}
 use Rattle.discovery_rows.specs.Pool.{pushed, dropped-past}
@@ -27,7 +27,7 @@ use Rattle.discovery.specs.Discovery.{pool-length}
 use Rattle.discovery_rows.specs.Lent.{lent-none}
 use Rattle.discovery_rows.specs.Rows.{cidAt, owned, headOf, leafAt, leafWith, heads, leaves, total, amount, Few, Packs, turned-row, page-pushed, total-pushed, few-pushed, listed-row}
 use Rattle.discovery_rows.specs.Steps.{pool-room, pool-small}
-use Rattle.discovery_calls.specs.View.{headsOf, leavesOf, discoveredOf, Kept, Holds, Dropped, heads-append, length-leavesOf, kept-fewer, absent-heads, heads-prefix, heads-removeAt, heads-set, heads-getD, kept-held, single-sound, length-heads}
+use Rattle.discovery_calls.specs.View.{headsOf, leavesOf, discoveredOf, Kept, Holds, Dropped, heads-append, length-leavesOf, kept-fewer, absent-heads, present-heads, heads-prefix, heads-removeAt, heads-set, heads-getD, kept-held, single-sound, length-heads}
 
 -- ── a source with one page is put behind the others of its mark ──
 module _ (d : Discovery) (S N P : List (List ℕ)) (U : List ℕ) (k : Kept d S N P U) (m now : ℕ) (a : Announcement) (f : Fitting a) (small : m < 2)
@@ -126,6 +126,16 @@ pub headless : (m : ℕ) (c : Cid) (hs : List Head) (Q : Cid → List Page) → 
 headless m c hs Q a = lookup-none c (sources-at m hs Q) (any-sources m c hs Q ∙ a)
 
 -- ── one page more for a partial source ──
+-- its pages stand in order
+pub pages-rising : (c : Cid) (d : Discovery) (S N P : List (List ℕ)) (U : List ℕ) (k : Kept d S N P U)
+    → prefix (λ r. not (owned 0 c r)) (take (d .«source_count») S) < d .«source_count» → Rising (pages-at 0 (leaves (take (d .«page_count») P) U) c)
+unfolding discoveredOf viewOf leavesOf
+pages-rising c d S N P U k h =
+    let Q = pages-at 0 (leaves (take (d .«page_count») P) U) in
+    let t = head-source d S N P U c (present-heads 0 c d S N P U k h) in
+    let r : Rising (t .0 .pages) = proper-lookup c (sources-at 0 (headsOf d S N) Q) (t .0) (k .sound .ordered .partial-proper) (t .1) .rising in
+    subst Rising (lookup-pages 0 c (headsOf d S N) Q (t .0) (t .1)) r
+
 abbrev pub renewed-row : ℕ → List ℕ → List ℕ
 renewed-row now r = getD r 0 0 ∷ getD r 1 0 ∷ getD r 2 0 ∷ getD r 3 0 ∷ now ∷ getD r 5 0 ∷ []
 

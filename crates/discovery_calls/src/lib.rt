@@ -20,11 +20,13 @@ use discovery::PageCall;
 use discovery_rows::HeadRows;
 use discovery_rows::NameRows;
 use discovery_rows::PageRows;
-use discovery_rows::pages::add_page;
 use discovery_rows::pages::cut_pages;
 use discovery_rows::pages::drop_pages;
+use discovery_rows::pages::put_page;
 use discovery_rows::pool::write_at;
+use discovery_rows::rows::find_cid;
 use discovery_rows::rows::find_expired;
+use discovery_rows::rows::find_from;
 use discovery_rows::rows::find_source;
 use discovery_rows::rows::has_all_pages;
 use discovery_rows::rows::name_row;
@@ -54,21 +56,23 @@ pub struct PageCalled {
 }
 
 impl Discovery {
-    // The source of this mark goes, with its pages.
+    // The source of this mark goes, with its pages. It stands nowhere before place from.
     fn drop_source(
         self,
         sources: &mut HeadRows,
         names: &mut NameRows,
         pages: &mut PageRows,
         universes: &mut [u16],
+        from: usize,
         mark: u64,
         cid: Cid,
     ) -> Discovery
-        requires { ⌜ Kept self (now sources) (now names) (now pages) (now universes) × (mark < 2) ⌝ }
+        requires { ⌜ Kept self (now sources) (now names) (now pages) (now universes) × (mark < 2)
+            × (from ≤ prefix (λ row. not (owned mark cid row)) (take (self .«source_count») (now sources))) ⌝ }
         ensures { λ r. let m = lent sources names pages universes in ⌜ dropped mark cid self m r ⌝ }
     {
         let count = self.source_count;
-        let at = find_source(&*sources, count, mark, cid);
+        let at = find_from(&*sources, count, from, mark, cid);
         if count <= at {
             return self;
         }
@@ -153,7 +157,7 @@ impl Discovery {
         let count = self.page_count;
         let used = self.used;
         let n = list.len();
-        add_page(&mut *pages, &mut *universes, count, used, cid, page, list);
+        put_page(&mut *pages, &mut *universes, count, used, cid, page, list);
         let row = sources[at];
         let renewed = [row[0], row[1], row[2], row[3], reading, row[5]];
         sources[at] = renewed;
@@ -184,6 +188,7 @@ impl Discovery {
             &mut *names,
             &mut *pages,
             &mut *universes,
+            0,
             1,
             cid,
         );
@@ -195,7 +200,7 @@ impl Discovery {
         d
     }
 
-    // A page of a source without a partial entry.
+    // A page of a source without a partial entry; a listed one stands nowhere before place from.
     fn take_first(
         self,
         sources: &mut HeadRows,
@@ -203,6 +208,7 @@ impl Discovery {
         pages: &mut PageRows,
         universes: &mut [u16],
         reading: u64,
+        from: usize,
         cid: Cid,
         page: u8,
         last_page: u8,
@@ -211,7 +217,8 @@ impl Discovery {
     ) -> PageArrived
         requires { ⌜ Kept self (now sources) (now names) (now pages) (now universes)
             × (self .«page_count» < capacity) × (length (now name) ≤ most-name) × (length (now list) ≤ most-universes)
-            × (any (heads-of 0 cid) (headsOf self (now sources) (now names)) ≡ false) ⌝ }
+            × (any (heads-of 0 cid) (headsOf self (now sources) (now names)) ≡ false)
+            × (from ≤ prefix (λ row. not (owned 1 cid row)) (take (self .«source_count») (now sources))) ⌝ }
         ensures { λ r. let m = lent sources names pages universes in
             ⌜ took m r (taken reading (announcement cid name page «last_page» list) (known self (m .entry))) ⌝ }
     {
@@ -222,6 +229,7 @@ impl Discovery {
                     &mut *names,
                     &mut *pages,
                     &mut *universes,
+                    from,
                     1,
                     cid,
                 );
@@ -346,7 +354,8 @@ impl Discovery {
             };
         }
         let count = self.source_count;
-        let at = find_source(&*sources, count, 0, cid);
+        let from = find_cid(&*sources, count, cid);
+        let at = find_from(&*sources, count, from, 0, cid);
         if count <= at {
             return self.take_first(
                 &mut *sources,
@@ -354,6 +363,7 @@ impl Discovery {
                 &mut *pages,
                 &mut *universes,
                 reading,
+                from,
                 cid,
                 page,
                 last_page,
@@ -493,6 +503,7 @@ impl Discovery {
                 &mut *names,
                 &mut *pages,
                 &mut *universes,
+                0,
                 row[0],
                 cid,
             );

@@ -2,19 +2,19 @@
 -- Assumes nothing.
 use mathlib.Core.Path.{_≡_, refl, sym, ap, _∙_}
 use mathlib.Core.Bool.{Bool, true, false, not, cond, _&&_}
-use mathlib.Core.List.{List, [], _∷_, map}
+use mathlib.Core.List.{List, [], _∷_, _++_, map}
 use Prim.Native.Nat.{ℕ, zero, suc, _+_, _≤_, _<_}
 use native.Mathlib.Omega.{arith}
 use lib.Dec.{leb, ltb, eqb}
 use lib.ListN.{length}
 use Rattle.discovery.specs.Kept.{count-least}
-use borrow.Author.Tests.{eqb-true, eqb-false, ltb-true, ltb-false, le-leb, lt-leb}
+use borrow.Author.Tests.{eqb-true, eqb-false, leb-true, ltb-true, ltb-false, le-leb, lt-leb, le-ltb}
 use Rattle.laws.specs.Cases.{split, clash}
 use Rattle.laws.specs.Table.{keep, any}
 use Rattle.laws.specs.Place.{prefix, insertAt}
 use Rattle.rules.specs.declared.Cid.{Cid}
 use Rattle.rules.specs.Cid.{same, same-refl}
-use Rattle.discovery.specs.Discovery.{Page, page-count, pages-held, cut-page}
+use Rattle.discovery.specs.Discovery.{Page, page-count, pages-held, cut-page, Rising}
 use Rattle.discovery.specs.Laws.{same-sym}
 use Rattle.discovery_rows.specs.Store.{Head, Leaf, owner, heads-of, held-by, pages-at, sources-at, viewOf, Marked, Housed, Sound, owner-path, owner-self, Single, single-heads}
 
@@ -45,6 +45,32 @@ module _ (m : ℕ) (c : Cid) (l : Leaf) (own : held-by m c l ≡ true) where
       (λ g. rw (e, g, own, e, lt-leb (x .page .number) (l .page .number) (ltb-true (l .page .number) (x .page .number) g)))
       (λ g. rw (e, g, e, le-leb (x .page .number) (l .page .number) (ltb-false (l .page .number) (x .page .number) g)) (ap (λ (t : List Page). x .page ∷ t) r)))
       (λ e. rw (e, e) r)
+
+-- where the owner's pages stand in order and the last leaf is one of them, a page of no smaller number goes behind all
+module _ (m : ℕ) (c : Cid) (l : Leaf) (own : held-by m c l ≡ true) where
+  last-least : (k : ℕ) (ls : List Leaf) → any (λ (q : Page). not (leb k (q .number))) (pages-at m (ls ++ l ∷ []) c) ≡ false → k ≤ l .page .number
+  unfolding pages-at keep any
+  last-least k [] h =
+      split (leb k (l .page .number))
+      (λ e. leb-true k (l .page .number) e)
+      (λ e. let z : true ≡ false = rw (own, e) at h in clash refl z)
+  last-least k (x ∷ ls) h =
+      split (held-by m c x)
+      (λ e. split (leb k (x .page .number))
+      (λ g. last-least k ls (rw (e, g) at h))
+      (λ g. let z : true ≡ false = rw (e, g) at h in clash refl z))
+      (λ e. last-least k ls (rw e at h))
+
+  pub place-last : (n : ℕ) (ls : List Leaf) → l .page .number ≤ n → Rising (pages-at m (ls ++ l ∷ []) c) → prefix (behind m c n) (ls ++ l ∷ []) ≡ suc (length ls)
+  unfolding pages-at keep prefix
+  place-last n [] h r = rw (own, le-ltb n (l .page .number) h)
+  place-last n (x ∷ ls) h r =
+      split (held-by m c x)
+      (λ e.
+      let q : Rising (x .page ∷ pages-at m (ls ++ l ∷ []) c) = rw e at r in
+      let b : x .page .number ≤ l .page .number = last-least (x .page .number) ls (q .0) in
+      rw (e, le-ltb n (x .page .number) (omega arith)) (ap suc (place-last n ls h (q .1))))
+      (λ e. rw e (ap suc (place-last n ls h (rw e at r))))
 
 -- ── the leaves of an owner go ──
 pub pages-dropped : (m n : ℕ) (c d : Cid) (ls : List Leaf) → owner m c n d ≡ false → pages-at n (keep (λ l. not (held-by m c l)) ls) d ≡ pages-at n ls d

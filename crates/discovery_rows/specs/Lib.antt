@@ -4,7 +4,7 @@
 -- Pool       turns of loops over the pool
 -- Lent       how long the pool is, and what of it stays the caller's
 -- Rows       rows as heads and leaves; what a pass over the pages asks and leaves, turn by turn
--- Steps      one page put in its place, with room in the pool
+-- Steps      one page put in its place or behind all others, with room in the pool; where a walk may begin
 -- Contracts  page rows and pool in a contract, before and after a call
 pub mod Store
 pub mod Leaves

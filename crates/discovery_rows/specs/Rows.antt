@@ -8,7 +8,7 @@ use mathlib.Core.List.{List, [], _∷_, _++_, map, append-nil}
 use Prim.Native.Nat.{ℕ, zero, suc, _+_, _-_, _*_, _≤_, _<_}
 use borrow.Author.Tests.{ltb-true, ltb-false}
 use native.Mathlib.Omega.{arith}
-use lib.Dec.{ltb, eqb}
+use lib.Dec.{leb, ltb, eqb}
 use lib.ListN.{length, take, drop, getD, set, length-take, length-set}
 use native.Mathlib.Numerals.{add-one}
 use lib.Seq.{take-take, take-suc, take-suc-set, take-nil, take-at, drop-at, drop-drop, take-all}
@@ -63,6 +63,10 @@ Few (r ∷ rs) = (amount r ≤ most-universes) × Few rs
 -- the owner's partial page rows with a larger number
 abbrev pub larger : Cid → ℕ → List ℕ → Bool
 larger c n r = owned 0 c r && ltb n (getD r 3 0)
+
+-- a partial page row of the CID with no larger number
+abbrev pub no-larger : Cid → ℕ → List ℕ → Bool
+no-larger c n r = owned 0 c r && leb (getD r 3 0) n
 
 -- the partial page rows of a CID hold the numbers from i on, n of them: `numbered` on rows
 unfoldable pub in-turn : Cid → ℕ → ℕ → List (List ℕ) → Bool
@@ -137,6 +141,16 @@ in-turn-none c k last =
     split (ltb last k)
     (λ h. let e : suc last - k ≡ 0 = omega (arith, ltb-true last k h) in rw (e, h))
     (λ h. let e : suc last - k ≡ suc (last - k) = omega (arith, ltb-false last k h) in rw (e, h))
+
+-- too few rows: some place is not held
+pub in-turn-few : (c : Cid) (k m : ℕ) (rs : List (List ℕ)) → length rs < m → in-turn c k m rs ≡ false
+unfolding in-turn
+in-turn-few c k zero rs h = absurd (omega arith)
+in-turn-few c k (suc m) [] h = refl
+in-turn-few c k (suc m) (r ∷ rs) h =
+    split (owned 0 c r)
+    (λ e. let t = in-turn-few c (k + 1) m rs (omega arith) in split (eqb (getD r 3 0) k) (λ f. rw (e, f, t)) (λ f. rw (e, f)))
+    (λ e. rw e (in-turn-few c k (suc m) rs (omega arith)))
 
 -- ── leaves ──
 abbrev pub leafWith : List ℕ → List ℕ → Leaf

@@ -1,20 +1,25 @@
 -- What the code's steps on rows and pool make of heads and leaves, with all that is presupposed kept.
 -- Assumes nothing.
-use mathlib.Core.Path.{_≡_, refl, sym, ap, _∙_}
-use mathlib.Core.Bool.{Bool, not}
+use mathlib.Core.Path.{_≡_, refl, sym, ap, subst, _∙_}
+use mathlib.Core.Bool.{Bool, true, false, not}
 use mathlib.Core.List.{List, [], _∷_, _++_}
 use Prim.Native.Nat.{ℕ, zero, suc, _+_, _-_, _≤_, _<_}
 use native.Mathlib.Omega.{arith}
-use lib.ListN.{length, take, drop, length-take}
+use lib.Dec.{eqb}
+use lib.ListN.{length, take, drop, getD, set, length-take, length-set}
 use lib.Seq.{take-take, take-at, drop-at, drop-drop}
-use Rattle.laws.specs.Place.{prefix, prefix-le, insertAt}
+use Rattle.laws.specs.Cases.{split, clash}
+use borrow.Author.Tests.{leb-true}
+use Rattle.laws.specs.Place.{prefix, prefix-le, prefix-sooner, insertAt}
+use Rattle.laws.specs.Arrays.{spent, laid}
 use Rattle.rules.specs.declared.Cid.{Cid}
-use Rattle.discovery.specs.Discovery.{most-universes, capacity}
-use Rattle.discovery_rows.specs.Store.{Leaf}
-use Rattle.discovery_rows.specs.Leaves.{behind}
+use Rattle.rules.specs.Cid.{same}
+use Rattle.discovery.specs.Discovery.{Rising, most-universes, capacity}
+use Rattle.discovery_rows.specs.Store.{Leaf, pages-at}
+use Rattle.discovery_rows.specs.Leaves.{behind, place-last}
 use Rattle.discovery_rows.specs.Pool.{dropped-past}
 use Rattle.discovery.specs.Discovery.{pool-length}
-use Rattle.discovery_rows.specs.Rows.{leafAt, leafWith, leaves, total, amount, Few, Packing, Packs, larger, leaves-agree, leaves-append, taken-dropped, total-append, total-few}
+use Rattle.discovery_rows.specs.Rows.{cidAt, owned, leafAt, leafWith, leaves, total, amount, Few, Packing, Packs, larger, no-larger, leaves-agree, leaves-append, leaves-more, length-leaves, taken-dropped, total-append, total-few}
 
 -- ── one page more for a partial source ──
 leaves-prefix : (c : Cid) (n : ℕ) (rs : List (List ℕ)) (us : List ℕ) → prefix (behind 0 c n) (leaves rs us) ≡ prefix (λ r. not (larger c n r)) rs
@@ -65,6 +70,16 @@ pool-room count P U n g h k = let b : pool-length ≤ length U = g .pool in omeg
 pub place-within : (p : List ℕ → Bool) (count : ℕ) (P : List (List ℕ)) → prefix p (take count P) ≤ count
 place-within p count P = omega (arith, prefix-le p (take count P), length-take count P)
 
+-- ── a walk that begins further on ──
+-- a row that has not the CID has not the owner
+pub place-sooner : (m : ℕ) (c : Cid) (rs : List (List ℕ)) → prefix (λ r. not (same (cidAt r) c)) rs ≤ prefix (λ r. not (owned m c r)) rs
+place-sooner m c rs =
+    prefix-sooner (λ r. not (same (cidAt r) c)) (λ r. not (owned m c r)) rs
+    (λ r e. split (same (cidAt r) c)
+    (λ f. let z : false ≡ true = rw f at e in clash z refl)
+    (λ f. split (eqb (getD r 0 0) m) (λ g. rw (g, f)) (λ g. rw g)))
+
+-- ── one page more, in its place ──
 module _ (count used : ℕ) (P P′ : List (List ℕ)) (U U₁ U₂ : List ℕ) (c : Cid) (n : ℕ) (l : List ℕ) (at begin : ℕ)
     (g : Packing count P U) (filled : used ≡ total (take count P)) (room : count < capacity) (short : length l ≤ most-universes)
     (place : at ≡ prefix (λ r. not (larger c n r)) (take count P)) (start : begin ≡ total (take at P)) (p64 : length P′ ≡ capacity)
@@ -150,3 +165,45 @@ module _ (count used : ℕ) (P P′ : List (List ℕ)) (U U₁ U₂ : List ℕ) 
         };
         leaves-are = ap (λ (k : List (List ℕ)). leaves k U₂) rows ∙ x ∙ z ∙ ap (λ (k : ℕ). insertAt k new ls) q;
       }
+
+-- ── one page more, behind all others ──
+module _ (count used : ℕ) (P : List (List ℕ)) (U U₂ : List ℕ) (c : Cid) (n : ℕ) (l : List ℕ)
+    (g : Packing count P U) (filled : used ≡ total (take count P)) (some : 0 < count) (room : count < capacity) (short : length l ≤ most-universes)
+    (order : Rising (pages-at 0 (leaves (take count P) U) c)) (last : no-larger c n (getD P (count - 1) []) ≡ true)
+    (len : length U₂ ≡ length U) (written : take (used + length l) U₂ ≡ take used U ++ l) (rest : drop (used + length l) U₂ ≡ drop (used + length l) U) where
+  last-own : owned 0 c (getD P (count - 1) []) ≡ true
+  last-own = split (owned 0 c (getD P (count - 1) [])) (λ e. e) (λ e. let z : false ≡ true = rw e at last in clash z refl)
+
+  last-number : getD (getD P (count - 1) []) 3 0 ≤ n
+  last-number = leb-true (getD (getD P (count - 1) []) 3 0) n (rw last-own at last)
+
+  place-end : count ≡ prefix (λ r. not (larger c n r)) (take count P)
+  place-end =
+      let i = count - 1 in
+      let r : length P ≡ capacity = g .rows in
+      let e : i + 1 ≡ count = omega arith in
+      let k : i < length P = omega arith in
+      let x : Leaf = leafAt (getD P i []) (drop (total (take i P)) U) in
+      let m : leaves (take count P) U ≡ leaves (take i P) U ++ x ∷ [] = rw e at (leaves-more P i U k) in
+      let q : prefix (behind 0 c n) (leaves (take i P) U ++ x ∷ []) ≡ suc (length (leaves (take i P) U)) =
+      place-last 0 c x last-own n (leaves (take i P) U) last-number (subst (λ (ls : List Leaf). Rising (pages-at 0 ls c)) m order) in
+      omega (
+        arith,
+        q,
+        ap (λ (ls : List Leaf). prefix (behind 0 c n) ls) m,
+        leaves-prefix c n (take count P) U,
+        length-leaves (take i P) U,
+        length-take i P,
+      )
+
+  pub page-appended : Packs (count + 1) (used + length l) U (set P count (0 ∷ c .hi ∷ c .lo ∷ n ∷ length l ∷ [])) U₂
+      (insertAt (prefix (behind 0 c n) (leaves (take count P) U)) (record { mark = 0; cid = c; page = record { number = n; universes = l } }) (leaves (take count P) U))
+  page-appended =
+      let r : length P ≡ capacity = g .rows in
+      let row : List ℕ = 0 ∷ c .hi ∷ c .lo ∷ n ∷ length l ∷ [] in
+      let rows : take (count + 1) (set P count row) ≡ insertAt count row (take count P) =
+      laid P count row (omega arith) ∙ ap (λ (t : List (List ℕ)). t ++ row ∷ drop count (take count P)) (sym (take-take count count P (omega arith))) in
+      let gap : drop (used + length l) (take (used + length l) U) ≡ drop used (take used U) =
+      spent U (used + length l) (used + length l) (omega arith) ∙ sym (spent U used used (omega arith)) in
+      page-inserted count used P (set P count row) U U U₂ c n l count used
+      g filled room short place-end filled (length-set P count row ∙ r) rows refl len refl gap written rest refl

@@ -1,15 +1,15 @@
 // Passes over the pages and their universes: an owner's pages go, or a universe goes from them.
 ghost use mathlib.Core.Path.{_≡_};
 ghost use mathlib.Core.Bool.{not};
-ghost use mathlib.Core.List.{map};
-ghost use Prim.Native.Nat.{_+_, _≤_, _<_};
-ghost use lib.ListN.{length, take};
+ghost use mathlib.Core.List.{[], map};
+ghost use Prim.Native.Nat.{_+_, _-_, _≤_, _<_};
+ghost use lib.ListN.{length, take, getD};
 ghost use Rattle.laws.specs.Table.{keep};
 ghost use Rattle.laws.specs.Place.{prefix, insertAt};
-ghost use Rattle.discovery.specs.Discovery.{capacity, most-universes};
-ghost use Rattle.discovery_rows.specs.Store.{held-by};
+ghost use Rattle.discovery.specs.Discovery.{Rising, capacity, most-universes};
+ghost use Rattle.discovery_rows.specs.Store.{held-by, pages-at};
 ghost use Rattle.discovery_rows.specs.Leaves.{behind, cut-leaf};
-ghost use Rattle.discovery_rows.specs.Rows.{total, Packing};
+ghost use Rattle.discovery_rows.specs.Rows.{leaves, total, no-larger, Packing};
 ghost use Rattle.discovery_rows.specs.Contracts.{leaves-before, packs};
 use crate::PageRows;
 use crate::owners::is_page_of;
@@ -123,4 +123,44 @@ pub fn add_page(
     write_at(&mut *universes, begin, list);
     let row = [0, cid.hi, cid.lo, number as u64, n as u64];
     insert_page(&mut *pages, count, at, row);
+}
+
+// The last row is a page of the partial source, of no larger number.
+fn goes_last(pages: &PageRows, count: usize, cid: Cid, number: u8) -> bool
+    requires { ⌜ (0 < count) × (count ≤ capacity) × (length (now pages) ≡ capacity) ⌝ }
+    ensures { λ r. ⌜ r ≡ no-larger cid number (getD (now (pages .entry)) (count - 1) []) ⌝ }
+{
+    let row = pages[count - 1];
+    if is_page_of(row, 0, cid) {
+        return row[3] <= number as u64;
+    }
+    false
+}
+
+// The same as add_page for a source whose pages stand in order: one that goes last needs no search for its place.
+pub fn put_page(
+    pages: &mut PageRows,
+    universes: &mut [u16],
+    count: usize,
+    used: usize,
+    cid: Cid,
+    number: u8,
+    list: &[u16],
+)
+    requires { ⌜ Packing count (now pages) (now universes) × (used ≡ total (take count (now pages)))
+        × (0 < count) × (count < capacity) × (length (now list) ≤ most-universes)
+        × Rising (pages-at 0 (leaves (take count (now pages)) (now universes)) cid) ⌝ }
+    ensures { λ r. let before = leaves-before count pages universes in
+        ⌜ packs (count + 1) (used + length (now (list .entry))) pages universes
+        (insertAt (prefix (behind 0 cid number) before)
+        (record { mark = 0; cid = cid; page = record { number = number; universes = now (list .entry) } }) before) ⌝ }
+{
+    if goes_last(&*pages, count, cid, number) {
+        let n = list.len();
+        write_at(&mut *universes, used, list);
+        let row = [0, cid.hi, cid.lo, number as u64, n as u64];
+        pages[count] = row;
+        return;
+    }
+    add_page(&mut *pages, &mut *universes, count, used, cid, number, list);
 }

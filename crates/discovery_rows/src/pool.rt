@@ -46,6 +46,9 @@ pub fn move_down(universes: &mut [u16], to: usize, from: usize, n: usize)
         × (take (to + n) (now (universes .exit)) ≡ take to (now (universes .entry)) ++ take n (drop from (now (universes .entry))))
         × (drop (from + n) (now (universes .exit)) ≡ drop (from + n) (now (universes .entry))) ⌝ }
 {
+    if to == from {
+        return;
+    }
     let mut i = 0;
     while i < n {
         let u = universes[from + i];

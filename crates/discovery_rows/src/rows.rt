@@ -5,8 +5,9 @@ ghost use mathlib.Core.List.{[], _∷_, _++_, map};
 ghost use Prim.Native.Nat.{suc, _+_, _-_, _≤_, _<_};
 ghost use lib.ListN.{length, take, getD};
 ghost use Rattle.laws.specs.Place.{prefix, insertAt, removeAt};
+ghost use Rattle.rules.specs.Cid.{same};
 ghost use Rattle.discovery.specs.Discovery.{capacity, most-name};
-ghost use Rattle.discovery_rows.specs.Rows.{owned, larger, in-turn, turned-row, listed-row, old-row};
+ghost use Rattle.discovery_rows.specs.Rows.{cidAt, owned, larger, in-turn, turned-row, listed-row, old-row};
 use crate::HeadRows;
 use crate::NameRow;
 use crate::NameRows;
@@ -23,7 +24,36 @@ pub fn find_source(sources: &HeadRows, count: usize, mark: u64, cid: Cid) -> usi
     requires { ⌜ (count ≤ capacity) × (length (now sources) ≡ capacity) ⌝ }
     ensures { λ r. ⌜ r ≡ prefix (λ row. not (owned mark cid row)) (take count (now (sources .entry))) ⌝ }
 {
+    find_from(sources, count, 0, mark, cid)
+}
+
+// Where the first source with this CID stands, partial or listed; count if nowhere.
+pub fn find_cid(sources: &HeadRows, count: usize, cid: Cid) -> usize
+    requires { ⌜ (count ≤ capacity) × (length (now sources) ≡ capacity) ⌝ }
+    ensures { λ r. ⌜ r ≡ prefix (λ row. not (same (cidAt row) cid)) (take count (now (sources .entry))) ⌝ }
+{
     let mut i = 0;
+    while i < count {
+        let row = sources[i];
+        let own = Cid {
+            hi: row[1],
+            lo: row[2],
+        };
+        if own.is_same(cid) {
+            return i;
+        }
+        i += 1;
+    }
+    i
+}
+
+// The same as find_source, where the source stands nowhere before place from.
+pub fn find_from(sources: &HeadRows, count: usize, from: usize, mark: u64, cid: Cid) -> usize
+    requires { ⌜ (count ≤ capacity) × (length (now sources) ≡ capacity)
+        × (from ≤ prefix (λ row. not (owned mark cid row)) (take count (now sources))) ⌝ }
+    ensures { λ r. ⌜ r ≡ prefix (λ row. not (owned mark cid row)) (take count (now (sources .entry))) ⌝ }
+{
+    let mut i = from;
     while i < count {
         let row = sources[i];
         if is_source_of(row, mark, cid) {
@@ -176,6 +206,9 @@ pub fn has_all_pages(pages: &PageRows, count: usize, cid: Cid, last_page: u64) -
     requires { ⌜ (count ≤ capacity) × (length (now pages) ≡ capacity) ⌝ }
     ensures { λ r. ⌜ r ≡ in-turn cid 0 (suc «last_page») (take count (now (pages .entry))) ⌝ }
 {
+    if count as u64 <= last_page {
+        return false;
+    }
     let mut next: u64 = 0;
     let mut i = 0;
     while i < count {

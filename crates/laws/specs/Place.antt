@@ -31,6 +31,25 @@ module _ {A : Type 0} where
   prefix-le p [] = omega arith
   prefix-le p (x ∷ l) = let r = prefix-le p l in split (p x) (λ h. rw h (omega arith)) (λ h. rw h (omega arith))
 
+  -- what a walk passes it may leave out at its start
+  pub prefix-past : (p : A → Bool) (k : ℕ) (l : List A) → k ≤ prefix p l → k + prefix p (drop k l) ≡ prefix p l
+  unfolding prefix
+  prefix-past p zero l h = omega arith
+  prefix-past p (suc k) [] h = absurd (omega arith)
+  prefix-past p (suc k) (x ∷ l) h =
+      split (p x)
+      (λ e. let g : suc k ≤ suc (prefix p l) = rw e at h in rw e (omega (arith, prefix-past p k l (omega arith))))
+      (λ e. let g : suc k ≤ 0 = rw e at h in absurd (omega arith))
+
+  -- a test that passes less ends the walk no later
+  pub prefix-sooner : (p q : A → Bool) (l : List A) → ((x : A) → p x ≡ true → q x ≡ true) → prefix p l ≤ prefix q l
+  unfolding prefix
+  prefix-sooner p q [] i = omega arith
+  prefix-sooner p q (x ∷ l) i =
+      split (p x)
+      (λ e. let r = prefix-sooner p q l i in rw (e, i x e) (omega arith))
+      (λ e. rw e (omega arith))
+
   -- the entry at that place fails the test
   pub prefix-stop : (p : A → Bool) (l : List A) (d : A) → prefix p l < length l → p (getD l (prefix p l) d) ≡ false
   unfolding prefix

@@ -21,10 +21,13 @@ use Rattle.pairs.specs.declared.Checked.{Checked}
 use Rattle.pairs.specs.declared.Checked.the-variants.{Accepted, UniverseTimeout, SourcesExceeded, PairsFull}
 use Rattle.pairs.specs.declared.SweepAnswer.the-variants.{Quiet, TimedOut}
 use Rattle.pairs.specs.Table.{Key, key, keyOf, key-before, itself, Table, capacity, pairAt, has, listed, leave, without, live, swept, noted, told, sweep, reached, stop, recorded, admit, check, accepted, Ordered}
-use Rattle.pairs.specs.Laws.{accepted-is, without-unknown, without-known, ordered-without, ordered-swept, noted-none, swept-quiet, admit-stored, admit-stopped, ordered-admit, check-quiet, check-told}
+use Rattle.pairs.specs.Laws.{accepted-is, has-found, without-unknown, without-known, ordered-without, ordered-swept, noted-none, swept-quiet, admit-stored, admit-stopped, ordered-admit, check-quiet, check-told}
 use Rattle.pairs.specs.Answers.{answerOf}
-use Rattle.pair_rows.specs.View.{Rows, cidOf, pairsOf, sourcesOf, older, lonely, lower, last-reading, noteOf}
-use Rattle.pair_tables.specs.View.{tableOf, renewed, Kept, Follows, Unmoved, answered, removal, pair-stop, PairsKept, Stored, Admitted}
+use Rattle.pair_rows.specs.View.{Rows, cidOf, pairsOf, sourcesOf, older, lonely, lower, last-reading, noteOf, foundAt}
+use Rattle.pair_rows.specs.declared.Found.the-variants.{At}
+use Rattle.pair_rows.specs.Stores.{placed-at}
+use Rattle.laws.specs.Place.{place}
+use Rattle.pair_tables.specs.View.{tableOf, renewed, quiet, reading-noted, Kept, Follows, Unmoved, answered, removal, Renews, pair-stop, PairsKept, Stored, Admitted, RenewsPair}
 use Rattle.pair_rows.specs.Rows.{older-lower, lower-fresh}
 use Rattle.pair_rows.specs.Sweep.{fresh, note-none, note-some}
 use Rattle.pair_rows.specs.Notes.{older-removed, older-stored, lonely-without, lonely-swept, lonely-recorded}
@@ -33,6 +36,12 @@ use Rattle.pair_tables.specs.Admit.{swept-idle, stop-listed, stop-limit,
 -- the number of rows in use is what the header says
 pub used : {E : Type 0} (f : List ℕ → E) (n : ℕ) (rows : Rows) → n ≤ capacity → length rows ≡ capacity → length (map f (take n rows)) ≡ n
 used f n rows h l = length-map (take n rows) f ∙ omega (arith, length-take n rows)
+
+-- a pair that is found is held
+pub found-has : (p : Pair) (ps : List Pair) (at : ℕ) → At at ≡ foundAt (keyOf p) ps → has ps (p .cid) ≡ true
+found-has p ps at e =
+    let h = placed-at (place key-before keyOf (keyOf p) ps) at (pairAt (keyOf p) ps) (sym e) in
+    has-found (keyOf p) (h .0) ps (h .1)
 
 -- a pair is stored among the rows
 pub stored-as : (t : PairTable) (pairs : Rows) (p : Pair) (n o : ℕ) (after : Rows) → PairsKept t pairs → length after ≡ capacity → n ≤ capacity
@@ -163,19 +172,19 @@ module _ (t : PairTable) (pairs sources : Rows) (k : Kept t pairs sources) where
   unfolding sweep
   announced now o e = ap (told here) e
 
-  quiet : (now : ℕ) → noted now (here .pairs) (here .sources) ≡ none → Follows t pairs sources Quiet (answered (sweep true now here))
+  announced-quiet : (now : ℕ) → noted now (here .pairs) (here .sources) ≡ none → Follows t pairs sources Quiet (answered (sweep true now here))
   unfolding told
-  quiet now e = record {
+  announced-quiet now e = record {
     table-is = sym (ap (λ (r : Table × Option Key). r .0) (announced now none e));
     answer-is = sym (ap (λ (r : Table × Option Key). answerOf (r .1)) (announced now none e));
     kept = k;
   }
 
   pub announced-idle : (now : ℕ) → expired now (t .oldest) ≡ false → Follows t pairs sources Quiet (answered (sweep true now here))
-  announced-idle now o = quiet now (noted-none now (here .pairs) (here .sources) (fresh (t .oldest) now (here .pairs) (k .none-older) o))
+  announced-idle now o = announced-quiet now (noted-none now (here .pairs) (here .sources) (fresh (t .oldest) now (here .pairs) (k .none-older) o))
 
   pub announced-none : (now : ℕ) → noteOf (noted now (here .pairs) (here .sources)) ≡ Quiet → Follows t pairs sources Quiet (answered (sweep true now here))
-  announced-none now e = quiet now (note-none (noted now (here .pairs) (here .sources)) e)
+  announced-none now e = announced-quiet now (note-none (noted now (here .pairs) (here .sources)) e)
 
   pub announced-some : (now : ℕ) (c : Cid) (u : ℕ) (t′ : PairTable) (pairs′ sources′ : Rows) (known : Bool) → noteOf (noted now (here .pairs) (here .sources)) ≡ TimedOut c u
       → Follows t′ pairs′ sources′ known (removal (key c u) here) → Follows t′ pairs′ sources′ (TimedOut c u) (answered (sweep true now here))
@@ -291,6 +300,34 @@ module _ (t : PairTable) (pairs sources : Rows) (k : Kept t pairs sources) where
       → check limit announce p here ≡ admit limit p (now .0)
   check-goes limit announce p (v, none) e f = check-quiet limit announce p here v e
   check-goes limit announce p (v, some j) e f = let z : _≡_ {A = ℕ} 0 1 = cc in absurd (omega arith)
+
+  -- ── quiet notes ──
+  pub sweep-quiet : (announce : Bool) (now : ℕ) → quiet announce now t ≡ true → Follows t pairs sources Quiet (answered (sweep announce now here))
+  sweep-quiet true now h = announced-idle now (split (expired now (t .oldest)) (λ e. clash h (rw e)) (λ e. e))
+  sweep-quiet false now h = sweep-idle now h
+
+  check-quietly : (limit : SourceLimit) (announce : Bool) (p : Pair) → quiet announce (p .reading) t ≡ true → check limit announce p here ≡ admit limit p here
+  check-quietly limit announce p h =
+      let f = sweep-quiet announce (p .reading) h in
+      check-goes limit announce p (sweep announce (p .reading) here) refl (f .answer-is) ∙ ap (admit limit p) (sym (f .table-is))
+
+  -- an arrival that no sweep precedes
+  module _ (announce : Bool) (p : Pair) where
+    pub renews-listed : (d : Cid) (pairs′ : Rows) (done : Bool) → quiet announce (p .reading) t ≡ true → find before itself (p .cid) (here .sources) ≡ some d
+        → RenewsPair t pairs p pairs′ done → Renews announce p t pairs sources pairs′ done
+    renews-listed d pairs′ done h f r = record {
+      accepted = λ e limit.
+          subst (λ (said : Table × Checked). Follows (reading-noted (p .reading) t) pairs′ sources Accepted said) (sym (check-quietly limit announce p h))
+          (admit-listed limit p d (reading-noted (p .reading) t) pairs′ Accepted f (r .held e) (r .stored e));
+      left = r .left;
+    }
+
+    pub renews-nothing : Renews announce p t pairs sources pairs false
+    renews-nothing = record { accepted = λ e. clash e refl; left = λ e. refl }
+
+    pub checked-renewed : (limit : SourceLimit) (u : PairTable) (pairs′ : Rows) (done : Bool) → Renews announce p t pairs sources pairs′ done → done ≡ true → u ≡ reading-noted (p .reading) t
+        → Follows u pairs′ sources Accepted (check limit announce p here)
+    checked-renewed limit u pairs′ done r e g = subst (λ (v : PairTable). Follows v pairs′ sources Accepted (check limit announce p here)) (sym g) (r .accepted e limit)
 
 -- a sweep that the notes made anew show to be idle
 pub sweep-renewed : (t : PairTable) (pairs sources : Rows) (k : Kept t pairs sources) (now : ℕ) (u : PairTable) → u ≡ renewed t pairs sources → u .tidy && not (expired now (u .oldest)) ≡ true

@@ -5,20 +5,22 @@ use mathlib.Core.Logic.{_⊎_}
 use mathlib.Core.Bool.{Bool, true, false, not, cond, _&&_}
 use mathlib.Core.Option.{Option, none, some}
 use mathlib.Core.List.{List}
-use Prim.Native.Nat.{ℕ, _≤_, _<_}
+use Prim.Native.Nat.{ℕ, _≤_, _<_, min}
 use lib.Dec.{leb}
 use lib.ListN.{length}
 use Rattle.laws.specs.Table.{find, store}
 use Rattle.rules.specs.declared.Cid.{Cid}
 use Rattle.rules.specs.Cid.{before}
+use Rattle.rules.specs.Age.{expired}
 use Rattle.rules.specs.Answer.{first-of}
+use Rattle.settings.specs.declared.SourceLimit.{SourceLimit}
 use Rattle.pairs.specs.declared.Pair.{Pair}
 use Rattle.pair_tables.specs.declared.PairTable.{PairTable}
 use Rattle.pair_rows.specs.declared.Found.the-variants.{At}
 use Rattle.pairs.specs.declared.Checked.{Checked}
 use Rattle.pairs.specs.declared.Checked.the-variants.{Accepted, PairsFull}
 use Rattle.pairs.specs.declared.SweepAnswer.{SweepAnswer}
-use Rattle.pairs.specs.Table.{Key, keyOf, key-before, itself, Table, capacity, empty, pairAt, without, unknown, sequence-stop, Ordered}
+use Rattle.pairs.specs.Table.{Key, keyOf, key-before, itself, Table, capacity, empty, pairAt, has, without, unknown, sequence-stop, check, accepted, Ordered}
 use Rattle.pairs.specs.Answers.{answerOf}
 use Rattle.pairs.specs.Laws.{stale}
 use Rattle.pair_rows.specs.View.{Rows, pairsOf, sourcesOf, older, lonely, lower, last-reading, foundAt}
@@ -45,6 +47,14 @@ renewed t pairs sources = record {
   oldest = lower last-reading (pairsOf (t .count) pairs);
   tidy = not (lonely (pairsOf (t .count) pairs) (sourcesOf (t .«source_count») sources));
 }
+
+-- by its notes alone: no pair can be expired, nor, where the sweep looks for that, a CID be without a pair
+abbrev pub quiet : Bool → ℕ → PairTable → Bool
+quiet announce now t = cond announce (not (expired now (t .oldest))) (t .tidy && not (expired now (t .oldest)))
+
+-- the header with a pair of this reading in its rows
+abbrev pub reading-noted : ℕ → PairTable → PairTable
+reading-noted now t = record { count = t .count; «source_count» = t .«source_count»; oldest = min (t .oldest) now; tidy = t .tidy }
 
 -- ── what the calls ensure ──
 -- a table over any rows is the empty one
@@ -74,6 +84,11 @@ answered r = (r .0, answerOf (r .1))
 abbrev pub removal : Key → Table → Table × Bool
 removal k t = (without k t, not (unknown (pairAt k (t .pairs))))
 
+-- an arrival that is accepted without a sweep, whatever the limit; or all is left
+pub record Renews (announce : Bool) (p : Pair) (t : PairTable) (pairs sources pairs′ : Rows) (done : Bool) : Type 0 where
+  pub accepted : done ≡ true → (limit : SourceLimit) → Follows (reading-noted (p .reading) t) pairs′ sources Accepted (check limit announce p (tableOf t pairs sources))
+  pub left : done ≡ false → pairs′ ≡ pairs
+
 -- ── the pairs alone, for the steps of an arrival ──
 pub record PairsKept (t : PairTable) (pairs : Rows) : Type 0 where
   pub pairs-room : length pairs ≡ capacity
@@ -98,6 +113,17 @@ abbrev pub Admitted : PairTable → Rows → PairTable → Rows → Checked → 
 Admitted t pairs u after answer p =
     ((pair-stop p (pairsOf (t .count) pairs) ≡ none) × (answer ≡ Accepted) × Stored t pairs u after p)
     ⊎ ((pair-stop p (pairsOf (t .count) pairs) ≡ some answer) × (u ≡ t) × (after ≡ pairs))
+
+-- rules 3 and 4 for a pair that is held
+pub record Judged (p : Pair) (ps : List Pair) (answer : Checked) : Type 0 where
+  pub passes : accepted answer ≡ true → pair-stop p ps ≡ none
+  pub stops : accepted answer ≡ false → pair-stop p ps ≡ some answer
+
+-- a pair that is held is stored anew; or all is left
+pub record RenewsPair (t : PairTable) (pairs : Rows) (p : Pair) (after : Rows) (done : Bool) : Type 0 where
+  pub held : done ≡ true → has (pairsOf (t .count) pairs) (p .cid) ≡ true
+  pub stored : done ≡ true → Admitted t pairs (reading-noted (p .reading) t) after Accepted p
+  pub left : done ≡ false → after ≡ pairs
 
 -- what the steps of an arrival require
 pub record NewPair (t : PairTable) (pairs : Rows) (p : Pair) : Type 0 where

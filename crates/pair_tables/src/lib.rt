@@ -14,7 +14,7 @@ ghost use Rattle.rules.specs.Cid.{before};
 ghost use Rattle.pairs.specs.Table.{capacity, key, itself, has, sweep, admit, check};
 ghost use Rattle.pair_rows.specs.View.{pairsOf, sourcesOf, foundAt};
 ghost use Rattle.pair_tables.specs.Contracts.{table-before, Leaves};
-ghost use Rattle.pair_tables.specs.View.{answered, removal, renewed, Kept, Emptied, Unmoved, PairsKept, Stored, Admitted, NewPair, KnownPair, NewSource, arriving};
+ghost use Rattle.pair_tables.specs.View.{answered, removal, renewed, quiet, reading-noted, Kept, Emptied, Unmoved, PairsKept, Stored, Admitted, Judged, RenewsPair, Renews, NewPair, KnownPair, NewSource, arriving};
 use pair_rows::Found;
 use pair_rows::PAIRS;
 use pair_rows::all_paired;
@@ -170,6 +170,16 @@ impl PairTable {
         false
     }
 
+    // By its notes alone, a sweep has nothing to do.
+    fn is_quiet(self, announce: bool, reading: u64) -> bool
+        ensures { λ r. ⌜ r ≡ quiet announce reading self ⌝ }
+    {
+        if announce {
+            return !is_expired(reading, self.oldest);
+        }
+        self.is_idle(reading)
+    }
+
     // The header with its notes made anew from the rows.
     fn renew_notes(self, pairs: &PairRows, sources: &SourceRows) -> PairTable
         requires { ⌜ Kept self (now pairs) (now sources) ⌝ }
@@ -277,6 +287,19 @@ impl PairTable {
         self.sweep_expired(pairs, sources, reading)
     }
 
+    // The header with a pair of this reading in its rows.
+    fn note_reading(self, reading: u64) -> PairTable
+        ensures { λ r. ⌜ r ≡ reading-noted reading self ⌝ }
+    {
+        let oldest = earlier(self.oldest, reading);
+        PairTable {
+            count: self.count,
+            source_count: self.source_count,
+            oldest: oldest,
+            tidy: self.tidy,
+        }
+    }
+
     // A pair that is not held goes in at its place.
     fn store_new(self, pairs: &mut PairRows, pair: Pair) -> PairTable
         requires { ⌜ NewPair self (now pairs) pair ⌝ }
@@ -296,20 +319,60 @@ impl PairTable {
         }
     }
 
+    // Rule 4 for a pair that is held.
+    fn check_known(self, pairs: &PairRows, at: usize, pair: Pair) -> Checked
+        requires { ⌜ KnownPair self (now pairs) at pair ⌝ }
+        ensures { λ r. ⌜ Judged pair (pairsOf (self .count) (now (pairs .entry))) r ⌝ }
+    {
+        let row = pairs[at];
+        let last = pair_of(row);
+        let difference = sequence_difference(pair.sequence, last.sequence);
+        if is_sequence_refused(difference) {
+            return Checked::OutOfSequence(pair.sequence, last.sequence, difference);
+        }
+        Checked::Accepted
+    }
+
     // A pair takes the place of the one with its key.
     fn store_known(self, pairs: &mut PairRows, at: usize, pair: Pair) -> PairTable
         requires { ⌜ KnownPair self (now pairs) at pair ⌝ }
-        ensures { λ r. ⌜ Stored self (now (pairs .entry)) r (now (pairs .exit)) pair ⌝ }
+        ensures rows { λ r. ⌜ Stored self (now (pairs .entry)) r (now (pairs .exit)) pair ⌝ }
+        ensures header { λ r. ⌜ r ≡ reading-noted (pair .reading) self ⌝ }
     {
         let row = pair_row(pair);
         pairs[at] = row;
-        let least = earlier(self.oldest, pair.reading);
-        PairTable {
-            count: self.count,
-            source_count: self.source_count,
-            oldest: least,
-            tidy: self.tidy,
+        self.note_reading(pair.reading)
+    }
+
+    // A pair that is held and whose number follows takes its place; otherwise all is left.
+    fn renew_pair(self, pairs: &mut PairRows, pair: Pair) -> bool
+        requires { ⌜ PairsKept self (now pairs) ⌝ }
+        ensures { λ r. ⌜ RenewsPair self (now (pairs .entry)) pair (now (pairs .exit)) r ⌝ }
+    {
+        let cid = pair.cid;
+        let Found::At(at) = self.find(&*pairs, cid, pair.universe) else {
+            return false;
+        };
+        let answer = self.check_known(&*pairs, at, pair);
+        if is_accepted(answer) {
+            let stored = self.store_known(&mut *pairs, at, pair);
+            return true;
         }
+        false
+    }
+
+    // An arrival that no sweep precedes and nothing stops: the pair is held, its CID listed, its number follows. Otherwise all is left.
+    fn renew(self, pairs: &mut PairRows, sources: &SourceRows, announce: bool, pair: Pair) -> bool
+        requires { ⌜ Kept self (now pairs) (now sources) ⌝ }
+        ensures { λ r. ⌜ Renews announce pair self (now (pairs .entry)) (now (sources .entry)) (now (pairs .exit)) r ⌝ }
+    {
+        if self.is_quiet(announce, pair.reading) {
+            let Found::At(_) = find_source(sources, self.source_count, pair.cid) else {
+                return false;
+            };
+            return self.renew_pair(pairs, pair);
+        }
+        false
     }
 
     // Rules 3 to 5 for the pairs: full, refused, or stored.
@@ -331,19 +394,17 @@ impl PairTable {
                 answer: Checked::Accepted,
             };
         };
-        let row = pairs[at];
-        let last = pair_of(row);
-        let difference = sequence_difference(pair.sequence, last.sequence);
-        if is_sequence_refused(difference) {
+        let answer = self.check_known(&*pairs, at, pair);
+        if is_accepted(answer) {
+            let table = self.store_known(&mut *pairs, at, pair);
             return Arrival {
-                table: self,
-                answer: Checked::OutOfSequence(pair.sequence, last.sequence, difference),
+                table: table,
+                answer: Checked::Accepted,
             };
         }
-        let table = self.store_known(&mut *pairs, at, pair);
         Arrival {
-            table: table,
-            answer: Checked::Accepted,
+            table: self,
+            answer: answer,
         }
     }
 
@@ -500,6 +561,14 @@ impl DataTable {
         t.find(pairs, cid, universe)
     }
 
+    // By its notes alone, a sweep has nothing to do.
+    pub fn is_quiet(self, announce: bool, reading: u64) -> bool
+        ensures { λ r. ⌜ r ≡ quiet announce reading (self .table) ⌝ }
+    {
+        let t = self.table;
+        t.is_quiet(announce, reading)
+    }
+
     pub fn sweep(
         self,
         pairs: &mut PairRows,
@@ -540,6 +609,41 @@ impl DataTable {
         }
     }
 
+    // The commonest arrival; `note_reading` gives the header that then goes with the rows. Otherwise all is left.
+    pub fn renew(
+        self,
+        pairs: &mut PairRows,
+        sources: &SourceRows,
+        announce: bool,
+        cid: Cid,
+        universe: u16,
+        sequence: DataSequence,
+        reading: u64,
+    ) -> bool
+        requires { ⌜ Kept (self .table) (now pairs) (now sources) ⌝ }
+        ensures { λ r. ⌜ Renews announce (arriving cid universe (sequence .0) reading) (self .table)
+            (now (pairs .entry)) (now (sources .entry)) (now (pairs .exit)) r ⌝ }
+    {
+        let t = self.table;
+        let number = sequence.0;
+        let pair = Pair {
+            cid: cid,
+            universe: universe,
+            sequence: number,
+            reading: reading,
+        };
+        t.renew(pairs, sources, announce, pair)
+    }
+
+    // The header with a pair of this reading in its rows.
+    pub fn note_reading(self, reading: u64) -> DataTable
+        ensures { λ r. ⌜ r .table ≡ reading-noted reading (self .table) ⌝ }
+    {
+        let t = self.table;
+        let table = t.note_reading(reading);
+        DataTable { table }
+    }
+
     pub fn check_seq_number(
         self,
         pairs: &mut PairRows,
@@ -563,6 +667,13 @@ impl DataTable {
             sequence: number,
             reading: reading,
         };
+        if t.renew(&mut *pairs, &*sources, announce, pair) {
+            let table = t.note_reading(reading);
+            return DataArrival {
+                table: DataTable { table },
+                answer: Checked::Accepted,
+            };
+        }
         let r = t.check_seq_number(pairs, sources, limit, announce, pair);
         let table = r.table;
         let answer = r.answer;
@@ -617,6 +728,14 @@ impl SyncTable {
         t.find(pairs, cid, universe)
     }
 
+    // By its notes alone, a sweep has nothing to do.
+    pub fn is_quiet(self, announce: bool, reading: u64) -> bool
+        ensures { λ r. ⌜ r ≡ quiet announce reading (self .table) ⌝ }
+    {
+        let t = self.table;
+        t.is_quiet(announce, reading)
+    }
+
     pub fn sweep(
         self,
         pairs: &mut PairRows,
@@ -657,6 +776,41 @@ impl SyncTable {
         }
     }
 
+    // The commonest arrival; `note_reading` gives the header that then goes with the rows. Otherwise all is left.
+    pub fn renew(
+        self,
+        pairs: &mut PairRows,
+        sources: &SourceRows,
+        announce: bool,
+        cid: Cid,
+        universe: u16,
+        sequence: SyncSequence,
+        reading: u64,
+    ) -> bool
+        requires { ⌜ Kept (self .table) (now pairs) (now sources) ⌝ }
+        ensures { λ r. ⌜ Renews announce (arriving cid universe (sequence .0) reading) (self .table)
+            (now (pairs .entry)) (now (sources .entry)) (now (pairs .exit)) r ⌝ }
+    {
+        let t = self.table;
+        let number = sequence.0;
+        let pair = Pair {
+            cid: cid,
+            universe: universe,
+            sequence: number,
+            reading: reading,
+        };
+        t.renew(pairs, sources, announce, pair)
+    }
+
+    // The header with a pair of this reading in its rows.
+    pub fn note_reading(self, reading: u64) -> SyncTable
+        ensures { λ r. ⌜ r .table ≡ reading-noted reading (self .table) ⌝ }
+    {
+        let t = self.table;
+        let table = t.note_reading(reading);
+        SyncTable { table }
+    }
+
     pub fn check_seq_number(
         self,
         pairs: &mut PairRows,
@@ -680,6 +834,13 @@ impl SyncTable {
             sequence: number,
             reading: reading,
         };
+        if t.renew(&mut *pairs, &*sources, announce, pair) {
+            let table = t.note_reading(reading);
+            return SyncArrival {
+                table: SyncTable { table },
+                answer: Checked::Accepted,
+            };
+        }
         let r = t.check_seq_number(pairs, sources, limit, announce, pair);
         let table = r.table;
         let answer = r.answer;

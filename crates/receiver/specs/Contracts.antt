@@ -7,7 +7,7 @@ use denote.Triple.Both.{Both}
 use Rattle.laws.specs.Lent.{Part}
 use Rattle.pair_rows.specs.View.{Rows}
 use Rattle.sequences.specs.Contracts.{sequence-rows-in}
-use Rattle.receiver.specs.View.{Memory, memory, with-sequence-rows, with-sync-rows, with-waiting-rows, with-listened-rows, with-discovery-rows}
+use Rattle.receiver.specs.View.{Memory, memory, with-sequence-rows, with-data-rows, with-sync-rows, with-waiting-rows, with-listened-rows, with-discovery-rows}
 
 -- ── as a call finds it ──
 -- the whole memory
@@ -31,6 +31,12 @@ abbrev pub sequences-lent : Part Rows → Part Rows → Part Rows → Part Rows 
 sequences-lent dp ds sp ss m = record {
   entry = with-sequence-rows (sequence-rows-in (dp .entry) (ds .entry) (sp .entry) (ss .entry)) (m .entry);
   exit = with-sequence-rows (sequence-rows-in (dp .exit) (ds .exit) (sp .exit) (ss .exit)) (m .exit);
+}
+
+abbrev pub data-lent : Part Rows → Part Rows → Lent → Lent
+data-lent dp ds m = record {
+  entry = with-data-rows (now (dp .entry)) (now (ds .entry)) (m .entry);
+  exit = with-data-rows (now (dp .exit)) (now (ds .exit)) (m .exit);
 }
 
 abbrev pub sync-lent : Part Rows → Part Rows → Lent → Lent

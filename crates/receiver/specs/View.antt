@@ -7,6 +7,7 @@ use Prim.Native.Nat.{ℕ, _≤_}
 use lib.Dec.{eqb}
 use lib.ListN.{length}
 use Rattle.pair_rows.specs.View.{Rows}
+use Rattle.pair_tables.specs.View as tables
 use Rattle.sequences.specs.View as sequences
 use Rattle.waiting.specs.Waiting.{store-length}
 use Rattle.waiting_store.specs.Entries.{waitingOf}
@@ -63,6 +64,10 @@ abbrev pub with-sequence-rows : sequences.Lent → Memory → Memory
 with-sequence-rows n m =
     memory (n .data-pairs) (n .data-sources) (n .sync-pairs) (n .sync-sources) (m .rows) (m .store) (m .heard) (m .sources) (m .names) (m .pages) (m .universes)
 
+abbrev pub with-data-rows : Rows → Rows → Memory → Memory
+with-data-rows dp ds m =
+    memory dp ds (m .sync-pairs) (m .sync-sources) (m .rows) (m .store) (m .heard) (m .sources) (m .names) (m .pages) (m .universes)
+
 abbrev pub with-sync-rows : Rows → Rows → Memory → Memory
 with-sync-rows sp ss m =
     memory (m .data-pairs) (m .data-sources) sp ss (m .rows) (m .store) (m .heard) (m .sources) (m .names) (m .pages) (m .universes)
@@ -90,6 +95,15 @@ stateOf r m = record {
 
 abbrev pub spaceIn : Memory → List ℕ → Space
 spaceIn m out = spaceOf out (m .store) (m .universes)
+
+-- the receiver with a data pair of this reading in its rows
+abbrev pub reading-noted : ℕ → Receiver → Receiver
+reading-noted now r = record {
+  sequences = record { «data» = record { table = tables.reading-noted now (r .sequences .«data» .table) }; sync = r .sequences .sync };
+  waiting = r .waiting;
+  listened = r .listened;
+  discovery = r .discovery;
+}
 
 -- ── what is presupposed ──
 -- the lengths that the types of the lent arrays say

@@ -8,10 +8,11 @@ ghost use Rattle.model.specs.State.{listens};
 ghost use Rattle.model.specs.Calls.{poll-call, expiry-call, listen-call, mute-call, clear-call, clear-all-call, reset-call};
 ghost use Rattle.lengths.specs.Space.{bytes};
 ghost use Rattle.laws.specs.Lent.{untouched};
-ghost use Rattle.receiver.specs.View.{Memory, with-listened-rows, stateOf, KeptWaiting, KeptDiscovery, Kept, Begins, Does, Becomes};
+ghost use Rattle.receiver.specs.View.{Memory, with-listened-rows, stateOf, reading-noted, KeptWaiting, KeptDiscovery, Kept, Begins, Does, Becomes};
 ghost use Rattle.sequences.specs.Contracts.{sequence-rows-in};
 ghost use Rattle.receiver.specs.Contracts.{sequences-lent, waiting-lent, listened-lent, discovery-lent};
 ghost use Rattle.model.specs.Step.{most-listened};
+use arrivals::is_idle;
 use arrivals::poll;
 use discovery_calls::Discovery;
 use discovery_rows::HeadRows;
@@ -114,6 +115,12 @@ impl Receiver {
         }
         let q = self.sequences;
         let w = self.waiting;
+        if is_idle(q, w, settings, reading) {
+            return AfterPoll {
+                receiver: self,
+                answer: PollAnswer::Polled,
+            };
+        }
         let listened = self.listened;
         let discovery = self.discovery;
         let p = poll(
@@ -146,6 +153,26 @@ impl Receiver {
         AfterPoll {
             receiver: receiver,
             answer: PollAnswer::UniverseTimeout(cid, universe),
+        }
+    }
+
+    // The receiver with a data pair of this reading in its rows: for the short way of a step.
+    pub fn note_reading(self, reading: u64) -> Receiver
+        ensures { λ r. ⌜ r ≡ reading-noted reading self ⌝ }
+    {
+        let q = self.sequences;
+        let waiting = self.waiting;
+        let listened = self.listened;
+        let discovery = self.discovery;
+        let d = q.data;
+        let sync = q.sync;
+        let data = d.note_reading(reading);
+        let sequences = SequenceNumbering { data, sync };
+        Receiver {
+            sequences,
+            waiting,
+            listened,
+            discovery,
         }
     }
 

@@ -2,12 +2,12 @@
 -- Assumes nothing.
 use mathlib.Core.Path.{_≡_, refl, sym, ap, _∙_}
 use mathlib.Core.Bool.{Bool, true, false, cond}
-use mathlib.Core.List.{List, [], _∷_, _++_}
+use mathlib.Core.List.{List, [], _∷_, _++_, reverse, reverseAux, reverse-reverse}
 use Prim.Native.Nat.{ℕ, zero, suc, _+_, _*_, _/_, _%_, _^_, _≤_, _<_}
 use native.Mathlib.Omega.{arith}
 use native.Mathlib.Nat.{mul-le-mul-right, suc-mul, le-of-lt, pow-suc, pow-succ', mod-lt, mod-one, mod-eq-of-lt, add-mul, mul-assoc, mul-comm, div-add-mod', div-div-eq-div-mul}
 use lib.Dec.{ltb, eqb}
-use lib.ListN.{length, take, drop, getD}
+use lib.ListN.{length, take, drop, getD, length-reverse}
 use borrow.Author.Tests.{ltb-true, ltb-false, lt-ltb, le-ltb}
 use Rattle.laws.specs.Cases.{split}
 
@@ -20,6 +20,10 @@ number (b ∷ bs) = b * 256 ^ length bs + number bs
 unfoldable pub bigEndian : ℕ → ℕ → List ℕ
 bigEndian zero w = []
 bigEndian (suc n) w = w / 256 ^ n % 256 ∷ bigEndian n w
+
+-- a word of eight bytes with its bytes the other way round
+abbrev pub turnedOf : ℕ → ℕ
+turnedOf w = number (reverse (bigEndian 8 w))
 
 -- each is a byte
 abbrev pub Bytes : List ℕ → Type 0
@@ -153,3 +157,16 @@ pub bigEndian-number : (s : List ℕ) → Bytes s → bigEndian (length s) (numb
 bigEndian-number s p =
     number-injective (bigEndian (length s) (number s)) s (length-bigEndian (length s) (number s)) (bytes-bigEndian (length s) (number s)) p
     (number-bigEndian (length s) (number s) ∙ mod-eq-of-lt (number-below s p))
+
+-- ── the other way round ──
+bytes-reverse : (s t : List ℕ) → Bytes s → Bytes t → Bytes (reverseAux s t)
+bytes-reverse [] t p q = q
+bytes-reverse (b ∷ s) t p q = bytes-reverse s (b ∷ t) (p .1) (p .0, q)
+
+-- the bytes of the turned word, last first, are those of the word, first to last
+pub turned-back : (w t : ℕ) → t ≡ turnedOf w → reverse (bigEndian 8 t) ≡ bigEndian 8 w
+turned-back w t h =
+    let s = reverse (bigEndian 8 w) in
+    let l : length s ≡ 8 = length-reverse (bigEndian 8 w) ∙ length-bigEndian 8 w in
+    let e : bigEndian 8 (turnedOf w) ≡ s = rw l at (bigEndian-number s (bytes-reverse (bigEndian 8 w) [] (bytes-bigEndian 8 w) tt)) in
+    rw (h, e) (reverse-reverse (bigEndian 8 w))

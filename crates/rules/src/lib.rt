@@ -7,7 +7,7 @@ ghost use Rattle.rules.specs.Universe.{legal};
 ghost use Rattle.rules.specs.Sequence.{wrapped, signed, difference, refused};
 ghost use Rattle.rules.specs.Age.{age, aged, expired};
 ghost use Rattle.rules.specs.Cid.{cidOf, cidBytes, same, before};
-ghost use Rattle.rules.specs.Bytes.{number, bigEndian};
+ghost use Rattle.rules.specs.Bytes.{number, bigEndian, turnedOf};
 
 // The sequence number of a data packet.
 pub struct DataSequence(pub u8);
@@ -111,6 +111,23 @@ pub fn word(b0: u8, b1: u8, b2: u8, b3: u8, b4: u8, b5: u8, b6: u8, b7: u8) -> u
         + (b7 as u64)
 }
 
+// A word with its bytes the other way round. Listed from the lowest on they are stored at once, where those of the
+// word, listed from the highest on, are stored one by one.
+pub fn turned(h: u64) -> u64
+    ensures { λ r. ⌜ r ≡ turnedOf h ⌝ }
+{
+    word(
+        (h % 256) as u8,
+        (h / 0x100 % 256) as u8,
+        (h / 0x1_0000 % 256) as u8,
+        (h / 0x100_0000 % 256) as u8,
+        (h / 0x1_0000_0000 % 256) as u8,
+        (h / 0x100_0000_0000 % 256) as u8,
+        (h / 0x1_0000_0000_0000 % 256) as u8,
+        (h / 0x100_0000_0000_0000 % 256) as u8,
+    )
+}
+
 impl Cid {
     pub fn from_bytes(b: [u8; 16]) -> Cid
         ensures { λ r. ⌜ r ≡ cidOf b ⌝ }
@@ -123,25 +140,25 @@ impl Cid {
     pub fn to_bytes(self) -> [u8; 16]
         ensures { λ r. ⌜ r ≡ cidBytes self ⌝ }
     {
-        let hi = self.hi;
-        let lo = self.lo;
+        let hi = turned(self.hi);
+        let lo = turned(self.lo);
         [
-            (hi / 0x100_0000_0000_0000 % 256) as u8,
-            (hi / 0x1_0000_0000_0000 % 256) as u8,
-            (hi / 0x100_0000_0000 % 256) as u8,
-            (hi / 0x1_0000_0000 % 256) as u8,
-            (hi / 0x100_0000 % 256) as u8,
-            (hi / 0x1_0000 % 256) as u8,
-            (hi / 0x100 % 256) as u8,
             (hi % 256) as u8,
-            (lo / 0x100_0000_0000_0000 % 256) as u8,
-            (lo / 0x1_0000_0000_0000 % 256) as u8,
-            (lo / 0x100_0000_0000 % 256) as u8,
-            (lo / 0x1_0000_0000 % 256) as u8,
-            (lo / 0x100_0000 % 256) as u8,
-            (lo / 0x1_0000 % 256) as u8,
-            (lo / 0x100 % 256) as u8,
+            (hi / 0x100 % 256) as u8,
+            (hi / 0x1_0000 % 256) as u8,
+            (hi / 0x100_0000 % 256) as u8,
+            (hi / 0x1_0000_0000 % 256) as u8,
+            (hi / 0x100_0000_0000 % 256) as u8,
+            (hi / 0x1_0000_0000_0000 % 256) as u8,
+            (hi / 0x100_0000_0000_0000 % 256) as u8,
             (lo % 256) as u8,
+            (lo / 0x100 % 256) as u8,
+            (lo / 0x1_0000 % 256) as u8,
+            (lo / 0x100_0000 % 256) as u8,
+            (lo / 0x1_0000_0000 % 256) as u8,
+            (lo / 0x100_0000_0000 % 256) as u8,
+            (lo / 0x1_0000_0000_0000 % 256) as u8,
+            (lo / 0x100_0000_0000_0000 % 256) as u8,
         ]
     }
 

@@ -1,7 +1,7 @@
 -- One law for each return of the calls: what the tables' own calls ensure makes the pair of tables that the definition says.
 -- Assumes nothing.
 use mathlib.Core.Path.{_≡_, refl, sym, ap, _∙_, subst}
-use mathlib.Core.Bool.{Bool, true, false, not, cond}
+use mathlib.Core.Bool.{Bool, true, false, not, cond, _&&_}
 use mathlib.Core.Option.{Option, none, some}
 use Prim.Native.Nat.{ℕ}
 use native.Mathlib.Omega.{arith}
@@ -17,9 +17,10 @@ use Rattle.pairs.specs.Answers.{answerOf}
 use Rattle.pair_rows.specs.View.{Rows}
 use Rattle.pair_tables.specs.View as tables
 use Rattle.pair_tables.specs.View.{tableOf, removal}
+use Rattle.pair_tables.specs.Calls.{sweep-quiet}
 use Rattle.sequences.specs.declared.SequenceNumbering.{SequenceNumbering}
 use Rattle.sequences.specs.Sequences.{Numbers, numbers, timeouts, timeouts-data, timeouts-sync, removed}
-use Rattle.sequences.specs.View.{Lent, lent, dataOf, syncOf, numbersOf, Kept, Follows, Unmoved, answered}
+use Rattle.sequences.specs.View.{Lent, lent, dataOf, syncOf, numbersOf, quiet, Kept, Follows, Unmoved, answered}
 
 -- ── the definition, by what the first sweep gave ──
 pub answer-some : (o : Option Key) (c : Cid) (u : ℕ) → TimedOut c u ≡ answerOf o → o ≡ some (key c u)
@@ -74,6 +75,15 @@ module _ (n : SequenceNumbering) (m : Lent) (k : Kept n m) (announce : Bool) (no
   -- a 4 from the data table leaves the synchronisation rows
   pub unmoved-data : tables.Unmoved (n .«data» .table) (m .data-pairs) (m .data-sources) now dp ds → Unmoved n m now (lent dp ds (m .sync-pairs) (m .sync-sources))
   unmoved-data u = record { data-same = u; sync-same = record { rows-same = λ s l. (refl, refl) } }
+
+-- quiet notes: the timeouts leave all, and tell nothing
+pub checks-nothing : (n : SequenceNumbering) (m : Lent) (k : Kept n m) (announce : Bool) (now : ℕ) → quiet announce now n ≡ true → Follows n m Quiet (answered (timeouts announce now (numbersOf n m)))
+checks-nothing n m k announce now h =
+    let d : tables.quiet announce now (n .«data» .table) ≡ true = split (tables.quiet announce now (n .«data» .table)) (λ e. e) (λ e. clash h (rw e)) in
+    let y : tables.quiet announce now (n .sync .table) ≡ true = split (tables.quiet announce now (n .sync .table)) (λ e. e) (λ e. clash h (rw (d, e))) in
+    checks-both n m k announce now (n .«data») (m .data-pairs) (m .data-sources) Quiet Quiet (n .sync) (m .sync-pairs) (m .sync-sources)
+    (sweep-quiet (n .«data» .table) (m .data-pairs) (m .data-sources) (k .kept-data) announce now d) refl
+    (sweep-quiet (n .sync .table) (m .sync-pairs) (m .sync-sources) (k .kept-sync) announce now y)
 
 -- a removal, by what was found of the data pair
 pub removed-found : (j : Key) (x : Numbers) (o : Option Pair) → pairAt j (x .data-table .pairs) ≡ o

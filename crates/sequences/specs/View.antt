@@ -1,7 +1,7 @@
 -- What the header and the lent rows of both tables stand for, and what each call promises of them.
 -- Assumes nothing.
 use mathlib.Core.Path.{_≡_}
-use mathlib.Core.Bool.{Bool, true, false, cond}
+use mathlib.Core.Bool.{Bool, true, false, cond, _&&_}
 use mathlib.Core.Option.{Option, none, some}
 use Prim.Native.Nat.{ℕ}
 use lib.ListN.{length}
@@ -32,6 +32,10 @@ syncOf n m = tableOf (n .sync .table) (m .sync-pairs) (m .sync-sources)
 
 abbrev pub numbersOf : SequenceNumbering → Lent → Numbers
 numbersOf n m = numbers (dataOf n m) (syncOf n m)
+
+-- by the notes of both tables, the timeouts have nothing to do
+abbrev pub quiet : Bool → ℕ → SequenceNumbering → Bool
+quiet announce now n = tables.quiet announce now (n .«data» .table) && tables.quiet announce now (n .sync .table)
 
 -- what calls require and ensure again
 pub record Kept (n : SequenceNumbering) (m : Lent) : Type 0 where

@@ -5,7 +5,7 @@ ghost use lib.ListN.{length};
 ghost use Rattle.pairs.specs.Table.{key};
 ghost use Rattle.sequences.specs.Sequences.{timeouts, removed};
 ghost use Rattle.sequences.specs.Contracts.{sequence-rows-in, sequence-rows};
-ghost use Rattle.sequences.specs.View.{numbersOf, Kept, Follows, Unmoved, Emptied, answered};
+ghost use Rattle.sequences.specs.View.{numbersOf, quiet, Kept, Follows, Unmoved, Emptied, answered};
 use pair_rows::PairRows;
 use pair_rows::SourceRows;
 use pair_tables::DataTable;
@@ -40,6 +40,18 @@ impl SequenceNumbering {
         let data = d.clear();
         let sync = y.clear();
         SequenceNumbering { data, sync }
+    }
+
+    // By the notes of both tables, `check_timeouts` has nothing to do.
+    pub fn is_quiet(self, announce: bool, reading: u64) -> bool
+        ensures { λ r. ⌜ r ≡ quiet announce reading self ⌝ }
+    {
+        let d = self.data;
+        let y = self.sync;
+        if d.is_quiet(announce, reading) {
+            return y.is_quiet(announce, reading);
+        }
+        false
     }
 
     // The data table is swept, then the synchronisation table; number 4 ends it.

@@ -14,6 +14,7 @@ use Rattle.settings.specs.declared.Settings.{Settings}
 use Rattle.pairs.specs.Answers.{answerOf, sweepNumberOf, sweepValuesOf}
 use Rattle.pair_rows.specs.View.{Rows}
 use Rattle.pairs.specs.Table.{Key, key, pairAt}
+use Rattle.pair_tables.specs.View.{reading-noted}
 use Rattle.pair_tables.specs.declared.DataTable.{DataTable}
 use Rattle.pair_tables.specs.declared.SyncTable.{SyncTable}
 use Rattle.pairs.specs.declared.SweepAnswer.{SweepAnswer}
@@ -29,6 +30,7 @@ use Rattle.waiting.specs.Waiting.{store-length}
 use Rattle.waiting_store.specs.Entries.{lent-none}
 use Rattle.waiting_store.specs.Entries as waiting
 use Rattle.listening.specs.declared.Listened.{Listened}
+use Rattle.listening.specs.View as listening
 use Rattle.discovery_calls.specs.declared.Discovery.{Discovery}
 use Rattle.discovery.specs.declared.PageAnswer.{PageAnswer}
 use Rattle.discovery.specs.declared.PageAnswer.the-variants as page
@@ -47,7 +49,10 @@ use Rattle.model.specs.Packet.{DataPacket, SyncPacket, Packet, data-packet, syn
 use Rattle.model.specs.State.{State, listens}
 use Rattle.model.specs.Step as model
 use Rattle.model.specs.Step.{Space, outcome, too-short, page-bytes, poll, polled, data-step, terminated, sync-step, discovery-step, listed, packet-step, step}
-use Rattle.arrivals.specs.View.{Polls, Arrives, Synchronises, rowsOf, lentOf}
+use Rattle.arrivals.specs.declared.Short.{Short}
+use Rattle.arrivals.specs.declared.Short.the-variants as short
+use Rattle.arrivals.specs.View.{Polls, Arrives, Synchronises, Shortens, idle, rowsOf, lentOf}
+use Rattle.arrivals.specs.Laws.{polls-idle}
 use Rattle.lengths.specs.Finds.{longOf, room-for, first-none}
 use Rattle.receiver.specs.declared.Receiver.{Receiver}
 use Rattle.receiver.specs.Further.{polled-kept}
@@ -55,9 +60,9 @@ use Rattle.steps.specs.declared.Course.{Course}
 use Rattle.steps.specs.declared.Course.the-variants as course
 use Rattle.packets.specs.declared.DiscoveryPacket.{DiscoveryPacket}
 use Rattle.discovery.specs.Discovery.{pool-length}
-use Rattle.receiver.specs.View.{Memory, sequencesIn, with-sequence-rows, with-sync-rows, with-waiting-rows, with-listened-rows, with-discovery-rows, stateOf, spaceIn, Kept}
+use Rattle.receiver.specs.View.{Memory, sequencesIn, with-sequence-rows, with-data-rows, with-sync-rows, with-waiting-rows, with-listened-rows, with-discovery-rows, stateOf, spaceIn, KeptWaiting, Kept}
 use Rattle.packets.specs.View.{announcementOf}
-use Rattle.steps.specs.View.{opening, courseOf, Opens, Ends, called, Tells, Takes}
+use Rattle.steps.specs.View.{opening, courseOf, Opens, Ends, called, Tells, Takes, TakesShort}
 
 -- ── lengths ──
 pub record Long (out store universes : List ℕ) : Type 0 where
@@ -166,6 +171,13 @@ module _ (S : Settings) (now : ℕ) (long : Option ℕ) (r : Receiver) (m : Memo
       lent-pages = pool.lent-none (m .universes);
       told = λ own. sweep-first Quiet e;
     }
+
+  -- the poll has nothing to do
+  pub opens-idle : idle S now (r .sequences) (r .waiting .count) ≡ true → too-short (spaceIn m out) ≡ none → long ≡ none → sequences.Kept (r .sequences) (sequencesIn m)
+      → KeptWaiting (r .waiting .count) (m .rows) (m .store) → Opens S now long r m out r m false says.Nothing
+  opens-idle h z l k w =
+      opens-quiet {q = r .sequences} {n = sequencesIn m} {w = r .waiting} z l
+      (polls-idle S now (r .sequences) (sequencesIn m) (r .waiting .count) (m .rows) (m .store) h k (w (long-enough out (m .store) (m .universes) z .held))) refl
 
 -- what the parts of a step presuppose, where the opening let it go on
 module _ (S : Settings) (now : ℕ) (long : Option ℕ) (r : Receiver) (m : Memory) (out : List ℕ) (r′ : Receiver) (m′ : Memory) (stopped : Bool) (a : StepAnswer)
@@ -405,4 +417,23 @@ module _ (S : Settings) (now : ℕ) (d : DataPacket) (r : Receiver) (m : Memory)
     };
     lent-waiting = x .ready .lent-waiting;
     lent-pages = pool.lent-none (m .universes);
+  }
+
+  -- the short way
+  pub takes-short : (dp : Rows) (out′ : List ℕ) (a : Short) → d .preview ≡ false → d .terminated ≡ false → listens (d .universe) (stateOf r m .listened) ≡ true → listening.Kept (r .listened) (m .heard)
+      → Shortens S now d (r .sequences .«data» .table) (r .waiting .count) (m .data-pairs) (m .data-sources) out dp out′ a
+      → TakesShort S now d r m out (with-data-rows dp (m .data-sources) m) out′ a
+  takes-short dp out′ a e f g k x = record {
+    takes = λ b h w.
+        takes-data (record { table = reading-noted now (r .sequences .«data» .table) }) dp (m .data-sources) (r .waiting) (r .listened) (m .rows) (m .store) (m .heard) out′ (says.Released 1 b)
+        (ap (λ (y : Bool). y && not (S .«process_preview_data»)) e) f g (x .arrives b h (lentOf (r .waiting .count) (r .listened) (m .rows) (m .store) (m .heard)) refl w k);
+    left = λ h.
+        let y = x .left h in
+        (ap (λ (z : Rows). with-data-rows z (m .data-sources) m) (y .0), y .1);
+  }
+
+  pub takes-short-nothing : TakesShort S now d r m out m out short.Left
+  takes-short-nothing = record {
+    takes = λ b h. let z : _≡_ {A = ℕ} 0 1 = cc in absurd (omega arith);
+    left = λ h. (refl, refl);
   }

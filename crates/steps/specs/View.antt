@@ -22,13 +22,16 @@ use Rattle.lengths.specs.declared.Measured.{Measured}
 use Rattle.lengths.specs.Space.{shortage, excess, measuredNumber, measuredValues}
 use Rattle.model.specs.declared.StepAnswer.{StepAnswer}
 use Rattle.model.specs.declared.StepAnswer.the-variants as says
-use Rattle.model.specs.Packet.{DataPacket, Packet, too-long}
+use Rattle.model.specs.Packet.{DataPacket, Packet, data-packet, too-long}
 use Rattle.model.specs.Answer.{stepNumber, stepValues}
-use Rattle.model.specs.Step.{outcome, too-short, poll, terminated, listed, packet-step, step}
+use Rattle.model.specs.Step.{Space, outcome, too-short, poll, terminated, listed, packet-step, step}
 use Rattle.receiver.specs.declared.Receiver.{Receiver}
 use Rattle.steps.specs.declared.Course.{Course}
 use Rattle.steps.specs.declared.Course.the-variants as course
-use Rattle.receiver.specs.View.{Memory, stateOf, spaceIn, Kept}
+use Rattle.arrivals.specs.declared.Short.{Short}
+use Rattle.arrivals.specs.declared.Short.the-variants as short
+use Rattle.arrivals.specs.View.{idle}
+use Rattle.receiver.specs.View.{Memory, stateOf, spaceIn, reading-noted, Kept}
 
 -- what lengths and sweep say, each with its own number and values; and of two, the first that stops
 abbrev pub length-said : Measured → ℕ × List Value
@@ -54,6 +57,12 @@ pub record Opens (S : Settings) (now : ℕ) (long : Option ℕ) (r : Receiver) (
   pub kept : Kept r m → Kept r′ m′
   pub lent-waiting : waiting.Lent (m .rows) (m .store) (m′ .rows) (m′ .store)
   pub lent-pages : pool.Lent (m .universes) (m′ .universes)
+
+-- 1 and 2 would leave all and let the packet be taken
+pub record Ready (S : Settings) (now : ℕ) (long : Option ℕ) (r : Receiver) (space : Space) : Type 0 where
+  pub room : too-short space ≡ none
+  pub fits : long ≡ none
+  pub idles : idle S now (r .sequences) (r .waiting .count) ≡ true
 
 -- 3: "Terminated .. Not listened: nothing. Data pair table.", in this order
 abbrev pub courseOf : Bool → Bool → Course
@@ -83,3 +92,9 @@ pub record Takes (S : Settings) (now : ℕ) (p : Packet) (r : Receiver) (m : Mem
   pub kept : Kept r m → Kept r′ m′
   pub lent-waiting : waiting.Lent (m .rows) (m .store) (m′ .rows) (m′ .store)
   pub lent-pages : pool.Lent (m .universes) (m′ .universes)
+
+-- 3, the short way: the packet is released while nothing waits; or all is left
+pub record TakesShort (S : Settings) (now : ℕ) (d : DataPacket) (r : Receiver) (m : Memory) (out : List ℕ) (m′ : Memory) (out′ : List ℕ) (answer : Short) : Type 0 where
+  pub takes : (bytes : ℕ) → answer ≡ short.Released bytes → waiting.Kept (r .waiting .count) (m .rows) (m .store)
+      → Takes S now (data-packet d) r m out (reading-noted now r) m′ out′ (says.Released 1 bytes)
+  pub left : answer ≡ short.Left → (m′ ≡ m) × (out′ ≡ out)

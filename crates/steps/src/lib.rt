@@ -1,6 +1,6 @@
 // Document 01, 'The receiver', the parts of a step: its opening (lengths, then the poll), and what each kind of packet does behind it. Crate handlers calls them in the order of a step.
 ghost use mathlib.Core.Path.{_≡_};
-ghost use mathlib.Core.Bool.{not, _&&_};
+ghost use mathlib.Core.Bool.{true, not, _&&_};
 ghost use mathlib.Core.List.{List};
 ghost use Prim.Native.Nat.{ℕ, _≤_};
 ghost use lib.ListN.{length};
@@ -15,16 +15,20 @@ ghost use Rattle.packets.specs.View.{packetOf, syncOf};
 ghost use Rattle.laws.specs.Lent.{untouched};
 ghost use Rattle.receiver.specs.View.{Memory, with-discovery-rows, KeptWaiting, Kept};
 ghost use Rattle.sequences.specs.Contracts.{sequence-rows-in};
-ghost use Rattle.receiver.specs.Contracts.{lent, sequences-lent, sync-lent, waiting-lent, listened-lent, discovery-lent};
+ghost use Rattle.receiver.specs.Contracts.{lent, sequences-lent, data-lent, sync-lent, waiting-lent, listened-lent, discovery-lent};
 ghost use Rattle.waiting.specs.Records.{most-bytes};
 ghost use Rattle.merge.specs.Merge.{most-values};
 ghost use Rattle.discovery.specs.Discovery.{most-name, most-universes};
 ghost use Rattle.packets.specs.View.{announcementOf};
 ghost use Rattle.lengths.specs.Finds.{longOf};
-ghost use Rattle.steps.specs.View.{courseOf, Opens, Ends, called, Tells, Takes};
+ghost use Rattle.lengths.specs.Space.{spaceOf};
+ghost use Rattle.steps.specs.View.{courseOf, Opens, Ready, Ends, called, Tells, Takes, TakesShort};
+use arrivals::Short;
 use arrivals::arrive_data;
 use arrivals::arrive_sync;
+use arrivals::is_idle;
 use arrivals::poll;
+use arrivals::release_known;
 use discovery::PageAnswer;
 use discovery::PageCall;
 use discovery_rows::HeadRows;
@@ -154,6 +158,15 @@ pub fn open(
     }
     let q = receiver.sequences;
     let w = receiver.waiting;
+    if is_idle(q, w, settings, reading) {
+        let stopped = false;
+        let answer = StepAnswer::Nothing;
+        return Opened {
+            receiver,
+            stopped,
+            answer,
+        };
+    }
     let listened = receiver.listened;
     let discovery = receiver.discovery;
     let p = poll(
@@ -189,6 +202,74 @@ pub fn open(
         stopped: true,
         answer: StepAnswer::UniverseTimeout(cid, universe),
     }
+}
+
+// The lengths fit, and the poll has nothing to do: the opening would leave all and let the packet be taken.
+pub fn is_ready(
+    receiver: Receiver,
+    store: &[u8],
+    universes: &[u16],
+    settings: Settings,
+    reading: u64,
+    part: Measured,
+    out: &[u8],
+) -> bool
+    ensures { λ r. ⌜ (r ≡ true → Ready settings reading (longOf part) receiver (spaceOf (now (out .entry)) (now (store .entry)) (now (universes .entry)))) ⌝ }
+{
+    if let Measured::TooShort(_) = test_space(out, store, universes) {
+        return false;
+    }
+    if let Measured::TooLong(_) = part {
+        return false;
+    }
+    let q = receiver.sequences;
+    let w = receiver.waiting;
+    is_idle(q, w, settings, reading)
+}
+
+// 3, the short way: no preview, no termination, a listened universe, and what `release_known` asks for. Otherwise all is left.
+pub fn take_short(
+    receiver: Receiver,
+    data_pairs: &mut PairRows,
+    data_sources: &SourceRows,
+    heard: &ListenedUniverses,
+    settings: Settings,
+    reading: u64,
+    packet: DataPacket,
+    values: &[u8],
+    out: &mut [u8],
+) -> Short
+    requires { ⌜ pairs.Kept (receiver .sequences .«data» .table) (now «data_pairs») (now «data_sources»)
+        × listening.Kept (receiver .listened) (now heard) × (most-bytes ≤ length (now out)) × (length (now values) ≤ most-values) ⌝ }
+    ensures { λ r. ⌜ ((rest : Memory) →
+        let m = data-lent «data_pairs» «data_sources» (listened-lent heard (untouched rest)) in
+        TakesShort settings reading (packetOf packet (now (values .entry)))
+        receiver (m .entry) (now (out .entry)) (m .exit) (now (out .exit)) r) ⌝ }
+{
+    if packet.preview {
+        return Short::Left;
+    }
+    if packet.terminated {
+        return Short::Left;
+    }
+    let q = receiver.sequences;
+    let w = receiver.waiting;
+    let l = receiver.listened;
+    if l.is_listening(heard, packet.universe) {
+        let d = q.data;
+        return release_known(
+            d,
+            w,
+            data_pairs,
+            data_sources,
+            settings,
+            reading,
+            packet,
+            values,
+            out,
+        );
+    }
+    Short::Left
 }
 
 // 4: a synchronisation packet.

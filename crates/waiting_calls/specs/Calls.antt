@@ -75,6 +75,17 @@ pub record SweptCall (n : ℕ) (rows : List (List ℕ)) (store : List ℕ) (now 
   pub yields : Yields rows store rows′ store′ m (swept now (waitingOf n rows store))
   pub quiet : any (λ (d : Dmx). not (fresh now d)) (waitingOf n rows store) ≡ false → (rows′ ≡ rows) × (store′ ≡ store)
 
+-- nothing waits: there is nothing to sweep, nor to clear
+module _ (n : ℕ) (rows : List (List ℕ)) (store : List ℕ) (e : n ≡ 0) (k : Kept n rows store) where
+  pub none-swept : (now : ℕ) → SweptCall n rows store now rows store n
+  none-swept now = record {
+    yields = record { kept = k; lent = lent-none rows store; view = subst (λ (x : ℕ). waitingOf x rows store ≡ swept now (waitingOf x rows store)) (sym e) (unfold keep in refl) };
+    quiet = λ z. (refl, refl);
+  }
+
+  pub none-cleared : (u : ℕ) → Yields rows store rows store n (cleared u (waitingOf n rows store) .0)
+  none-cleared u = record { kept = k; lent = lent-none rows store; view = subst (λ (x : ℕ). waitingOf x rows store ≡ cleared u (waitingOf x rows store) .0) (sym e) (unfold cleared remove in refl) }
+
 -- no data at all, whatever the memory holds
 pub record Empty (n : ℕ) : Type 0 where
   pub none-waits : (rows : List (List ℕ)) (store : List ℕ) → waitingOf n rows store ≡ []

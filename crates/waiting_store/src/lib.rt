@@ -321,15 +321,16 @@ fn front_bytes(d: DmxData, present: u8) -> [u8; 9]
 fn back_bytes(reading: u64, count: usize) -> [u8; 10]
     ensures { λ r. ⌜ r ≡ backBytes reading count ⌝ }
 {
+    let reading = rules::turned(reading);
     [
-        (reading / 0x100_0000_0000_0000 % 256) as u8,
-        (reading / 0x1_0000_0000_0000 % 256) as u8,
-        (reading / 0x100_0000_0000 % 256) as u8,
-        (reading / 0x1_0000_0000 % 256) as u8,
-        (reading / 0x100_0000 % 256) as u8,
-        (reading / 0x1_0000 % 256) as u8,
-        (reading / 0x100 % 256) as u8,
         (reading % 256) as u8,
+        (reading / 0x100 % 256) as u8,
+        (reading / 0x1_0000 % 256) as u8,
+        (reading / 0x100_0000 % 256) as u8,
+        (reading / 0x1_0000_0000 % 256) as u8,
+        (reading / 0x100_0000_0000 % 256) as u8,
+        (reading / 0x1_0000_0000_0000 % 256) as u8,
+        (reading / 0x100_0000_0000_0000 % 256) as u8,
         (count / 256 % 256) as u8,
         (count % 256) as u8,
     ]

@@ -6,15 +6,15 @@ use borrow.Author.Needs.{needs}
 use Rattle.discovery_calls.proofs.Discovery.drop_source.Statement.{statement}
 use Rattle.discovery_calls.proofs.Discovery.drop_source.Tie as tie
 
-find-source-requires : tie.Need-find-source-requires
-find-source-requires c κs = search needs
+find-from-requires : tie.Need-find-from-requires
+find-from-requires c κs = search needs
 
 returns : tie.Need-returns
 returns c =
     let s = c .before .before .before .before in
     let v = s .args in
     dropped-absent (v .mark) (v .cid) (v .self) (v .sources .now) (v .names .now) (v .pages .now) (v .universes .now) (s .pre .0)
-    (omega (arith, c .before .find-source .ensures))
+    (omega (arith, c .before .find-from .ensures))
 
 remove-source-requires : tie.Need-remove-source-requires
 remove-source-requires c κs = search needs
@@ -25,8 +25,8 @@ remove-name-requires c κs = search needs
 drop-pages-requires : tie.Need-drop-pages-requires
 drop-pages-requires c κs = search needs
 
-sub-t19 : tie.Need-sub-t19
-sub-t19 c = search needs
+sub-t20 : tie.Need-sub-t20
+sub-t20 c = search needs
 
 same-length : tie.Need-same-length
 same-length c = search needs
@@ -35,7 +35,7 @@ returns-2 : tie.Need-returns-2
 returns-2 c =
     let s = c .before .before .before .before .before .before .before .before .before .before .before .before .before in
     let v = s .args in
-    let f = c .before .before .before .before .before .before .before .before .before .before .find-source in
+    let f = c .before .before .before .before .before .before .before .before .before .before .find-from in
     let x = c .before .before .before .before .before .before .before .remove-source in
     let y = c .before .before .before .before .before .remove-name in
     let z = c .before .before .drop-pages in
@@ -47,11 +47,11 @@ pub drop-source-spec : {M : Type 1} → statement M
 drop-source-spec =
     tie.close
     (tie.spec
-    find-source-requires
+    find-from-requires
     returns
     remove-source-requires
     remove-name-requires
     drop-pages-requires
-    sub-t19
+    sub-t20
     same-length
     returns-2)

@@ -4,15 +4,19 @@ use native.Mathlib.Omega.{arith}
 use lib.ListN.{length}
 use Rattle.discovery.specs.Discovery.{Announcement}
 use Rattle.discovery.specs.Kept.{Fitting}
-use Rattle.discovery_calls.specs.View.{Kept}
+use Rattle.discovery_calls.specs.View.{Kept, kept-fewer}
 use Rattle.discovery_rows.specs.Steps.{pool-small}
-use Rattle.discovery_calls.specs.Calls.{source-extended}
+use Rattle.discovery_calls.specs.Calls.{pages-rising, source-extended}
 use borrow.Author.Needs.{needs}
 use Rattle.discovery_calls.proofs.Discovery.extend_source.Statement.{statement}
 use Rattle.discovery_calls.proofs.Discovery.extend_source.Tie as tie
 
-add-page-requires : tie.Need-add-page-requires
-add-page-requires c κs = search needs
+put-page-requires : tie.Need-put-page-requires
+put-page-requires c κs =
+    let s = c .before .before .before .before .before in
+    let v = s .args in
+    let k : Kept (v .self) (v .sources .now) (v .names .now) (v .pages .now) (v .universes .now) = s .pre .0 in
+    (k .packing, k .filled, omega (arith, kept-fewer (v .self) (v .sources .now) (v .names .now) (v .pages .now) (v .universes .now) k), s .pre .1, s .pre .3, pages-rising (v .cid) (v .self) (v .sources .now) (v .names .now) (v .pages .now) (v .universes .now) k (omega (arith, s .pre .4)))
 
 mul-row : tie.Need-mul-row
 mul-row c = search needs
@@ -61,7 +65,7 @@ returns c =
     let k : Kept (v .self) (v .sources .now) (v .names .now) (v .pages .now) (v .universes .now) = s .pre .0 in
     let a : Announcement = record { cid = v .cid; name = v .name .now; page = v .page; last-page = v .last-page; universes = v .list .now } in
     let f : Fitting a = record { short-name = s .pre .2; few-universes = s .pre .3 } in
-    let p = c .before .before .before .add-page in
+    let p = c .before .before .before .put-page in
     λ t e. source-extended (v .self) (v .sources .now) (v .names .now) (v .pages .now) (v .universes .now) k (v .reading) a f (v .at) (s .pre .4) (s .pre .5) (s .pre .1)
     (p .last .0) (p .last .1 .0) (p .ensures) t e
 
@@ -69,7 +73,7 @@ pub extend-source-spec : {M : Type 1} → statement M
 extend-source-spec =
     tie.close
     (tie.spec
-    add-page-requires
+    put-page-requires
     mul-row
     element-copy-out-row
     array-read-t28

@@ -49,7 +49,7 @@ drop-source-requires c κs =
     let w = c .before .before .before .before .before .before .before .loop in
     let s = c .before .before .before .before .before .before .before .before .before .before .before in
     let v = s .args in
-    (w .inv .0, sweep-mark (v .time) (v .reading) (w .d) (w .sources) (w .names) (w .pages) (w .universes) (w .inv .0) (w .at) (w .inv .2) (c .before .before .before .before .before .if1 .taken))
+    (w .inv .0, sweep-mark (v .time) (v .reading) (w .d) (w .sources) (w .names) (w .pages) (w .universes) (w .inv .0) (w .at) (w .inv .2) (c .before .before .before .before .before .if1 .taken), omega arith)
 
 find-expired-requires-2 : tie.Need-find-expired-requires-2 Inv-loop μ-loop
 find-expired-requires-2 c κs =

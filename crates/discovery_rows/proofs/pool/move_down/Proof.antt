@@ -1,10 +1,11 @@
--- Each turn pushes the next of the part behind those moved; what is still to be looked at is as it was.
+-- What stands at its place stays. Otherwise each turn pushes the next of the part behind those moved; what is still to be looked at is as it was.
 -- Assumes nothing.
 use mathlib.Core.Path.{_≡_, refl, sym, ap, _∙_}
 use mathlib.Core.List.{List, _++_, _∷_, [], append-assoc, append-nil}
 use Prim.Native.Nat.{ℕ, _≤_, _-_, _+_}
 use native.Mathlib.Omega.{arith}
 use lib.ListN.{length, take, drop, getD, length-set}
+use lib.Seq.{take-add}
 use Rattle.discovery_rows.specs.Pool.{pushed, further, read-first, part-more}
 use borrow.Author.Needs.{needs}
 use Rattle.discovery_rows.proofs.pool.move_down.Statement.{statement}
@@ -18,9 +19,15 @@ Inv-loop universes₀ to from n i₀ universes i =
 abbrev μ-loop : tie.MeasureT-loop
 μ-loop universes₀ to from n i₀ universes i = n - i
 
+returns : tie.Need-returns Inv-loop μ-loop
+returns c =
+    let v = c .before .args in
+    let u = v .universes .now in
+    (refl, take-add (v .to) (v .n) u ∙ ap (λ (k : ℕ). take (v .to) u ++ take (v .n) (drop k u)) (c .if1 .taken), refl)
+
 loop-holds : tie.Need-loop-holds Inv-loop μ-loop
 loop-holds c =
-    let v = c .args in
+    let v = c .before .args in
     let e : v .to + 0 ≡ v .to = omega arith in
     (omega arith, refl, rw e (sym (append-nil (take (v .to) (v .universes .now)))), refl)
 
@@ -51,7 +58,7 @@ loop-less c = search needs
 loop-again : tie.Need-loop-again Inv-loop μ-loop
 loop-again c =
     let w = c .before .before .loop in
-    let v = c .before .before .before .args in
+    let v = c .before .before .before .before .args in
     let u = v .universes .now in
     let x = read-first (w .universes) u (v .from + w .i) 0 (w .inv .3) in
     let e : v .to + w .i + 1 ≡ v .to + (w .i + 1) = omega arith in
@@ -71,10 +78,10 @@ loop-again c =
 same-length : tie.Need-same-length Inv-loop μ-loop
 same-length c = search needs
 
-returns : tie.Need-returns Inv-loop μ-loop
-returns c =
+returns-2 : tie.Need-returns-2 Inv-loop μ-loop
+returns-2 c =
     let w = c .before .loop in
-    let v = c .before .before .args in
+    let v = c .before .before .before .args in
     let e : w .i ≡ v .n = omega arith in
     (w .inv .1, rw e at (w .inv .2), rw e at (w .inv .3))
 
@@ -84,6 +91,7 @@ move-down-spec =
     (tie.spec
     Inv-loop
     μ-loop
+    returns
     loop-holds
     add-u
     mul-u
@@ -95,4 +103,4 @@ move-down-spec =
     loop-less
     loop-again
     same-length
-    returns)
+    returns-2)
