@@ -210,10 +210,18 @@ impl fmt::Debug for Text<'_> {
 }
 
 /// The stop that an answer is, by its number and its kind of values, and none for 0, whose values the call reads. Only a packet with a name can have 9.
+#[inline]
 pub(crate) fn stopped(a: &ffi::Answer, name: Option<&[u8]>) -> Result<(), Stop> {
+    if a.number == 0 {
+        return Ok(());
+    }
+    Err(stop_of(a, name))
+}
+
+// Apart, so that an answer of 0 makes no `Stop`.
+fn stop_of(a: &ffi::Answer, name: Option<&[u8]>) -> Stop {
     let cid = Cid::of(a.hi, a.lo);
-    Err(match (a.number, a.values) {
-        (0, _) => return Ok(()),
+    match (a.number, a.values) {
         (1, ffi::ONE) => Stop::TooLong(a.first),
         (2, ffi::ONE) => Stop::IllegalUniverse(narrow(a.first)),
         (3, ffi::ONE) => Stop::UniverseNotRegistered(narrow(a.first)),
@@ -239,7 +247,7 @@ pub(crate) fn stopped(a: &ffi::Answer, name: Option<&[u8]>) -> Result<(), Stop> 
         (15, ffi::ONE) => Stop::TooShort(a.first),
         (16, ffi::NONE) => Stop::SourceWithoutPairs,
         (number, kind) => unknown(number, kind),
-    })
+    }
 }
 
 /// The end of a call that answered what it cannot: the library's bug or this crate's, which is not shown as anything else.
