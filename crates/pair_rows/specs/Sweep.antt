@@ -8,13 +8,13 @@ use mathlib.Core.List.{List, [], _∷_, _++_, map, append-nil}
 use Prim.Native.Nat.{ℕ, zero, suc, _+_, _-_, _≤_, _<_}
 use native.Mathlib.Omega.{arith}
 use lib.Dec.{ltb}
-use lib.ListN.{length, take, drop, getD, set, take-append-drop, length-append, length-take, length-drop, drop-of-length-le}
+use lib.ListN.{length, take, drop, getD, set, length-append, length-take, length-drop, drop-of-length-le}
 use lib.Seq.{drop-drop, set-getD}
 use borrow.Author.Tests.{ltb-false, leb-false, lt-leb}
-use Rattle.laws.specs.Cases.{split, clash, found}
+use Rattle.laws.specs.Cases.{split, clash}
 use Rattle.laws.specs.Order.{tri, asym, beyond}
 use Rattle.laws.specs.Table.{keep, any, Ascending, Under, keep-map, length-keep}
-use Rattle.laws.specs.Place.{prefix, drop-map, append-map}
+use Rattle.laws.specs.Place.{prefix, drop-map}
 use Rattle.laws.specs.Arrays.{next, untouched, compact-keep, compact-drop}
 use Rattle.rules.specs.declared.Cid.{Cid}
 use Rattle.rules.specs.Cid.{same, before, cid-order, same-refl, same-not}
@@ -24,7 +24,7 @@ use Rattle.pairs.specs.declared.SweepAnswer.{SweepAnswer}
 use Rattle.pairs.specs.declared.SweepAnswer.the-variants.{Quiet, TimedOut}
 use Rattle.pairs.specs.Table.{Key, key, keyOf, key-before, itself, has, live, lowest, later, last-noted, noted}
 use Rattle.pairs.specs.Laws.{stale}
-use Rattle.pair_rows.specs.View.{Rows, cidOf, pairOf, sourcesOf, row-before, starts, lapsed, older, lonely, noteOf}
+use Rattle.pair_rows.specs.View.{Rows, cidOf, pairOf, sourcesOf, row-before, starts, lapsed, older, lonely, noteOf, later-note}
 use Rattle.pair_rows.specs.Rows.{by-first-not}
 use Rattle.pair_rows.specs.Notes.{lonely-swept}
 
@@ -44,6 +44,9 @@ module _ {K E : Type 0} (lt : K → K → Bool) (key : E → K) where
       let r = keep-agree t u k es (a .1) h in
       split (t e) (λ p. cc) (λ p. cc)
 
+pub pairs-from : (i : ℕ) (l : Rows) → Ascending key-before keyOf (map pairOf l) → Ascending key-before keyOf (map pairOf (drop i l))
+pairs-from i l a = rw (← (drop-map pairOf i l)) (ascending-drop key-before keyOf i (map pairOf l) a)
+
 -- ── the pairs from the first whose CID is not before c ──
 pub has-skip : (c d : Cid) (l : Rows) → before d c ≡ false → has (map pairOf (drop (prefix (row-before c) l) l)) d ≡ has (map pairOf l) d
 unfolding prefix any
@@ -53,6 +56,16 @@ has-skip c d (r ∷ l) h =
     (λ e.
     let s = same-not (pairOf r .cid) d (λ f. clash (rw (← f) e) h) in
     rw (e, s) (has-skip c d l h))
+    (λ e. rw e)
+
+lowest-skip : (now : ℕ) (c d : Cid) (l : Rows) → before d c ≡ false → lowest now (map pairOf (drop (prefix (row-before c) l) l)) d ≡ lowest now (map pairOf l) d
+unfolding prefix lowest
+lowest-skip now c d [] h = refl
+lowest-skip now c d (r ∷ l) h =
+    split (before (pairOf r .cid) c)
+    (λ e.
+    let s = same-not (pairOf r .cid) d (λ f. clash (rw (← f) e) h) in
+    rw (e, s) (lowest-skip now c d l h))
     (λ e. rw e)
 
 -- a CID below the key of a list has no pair in it
@@ -112,17 +125,17 @@ ascending-rows (r ∷ l) a = (under-rows (cidOf r) l (a .0), ascending-rows l (a
 pub walk-starts : (l : Rows) (m : ℕ) (s : Rows) → Ascending before itself (map cidOf (take m s)) → Walk l (take m s) m s 0 0 0
 walk-starts l m s a = record { done = refl; rest = ascending-rows (take m s) a }
 
+-- pairs with a CID before c are passed
+passed : (c : Cid) (l : Rows) (j k : ℕ) → k ≡ j + prefix (row-before c) (drop j l) → drop k l ≡ drop (prefix (row-before c) (drop j l)) (drop j l)
+passed c l j k e = ap (λ (n : ℕ). drop n l) e ∙ sym (drop-drop (prefix (row-before c) (drop j l)) j l)
+
 module _ {l all : Rows} {m : ℕ} {s : Rows} {kept i j : ℕ} (w : Walk l all m s kept i j) (h : i < m) (ls : i < length s) where
   ahead : Ascending before cidOf (getD s i [] ∷ drop (i + 1) (take m s))
   ahead = rw (next s m i [] h ls) at (w .rest)
 
-  -- pairs with a CID before this one are passed
   module _ (k : ℕ) (e : k ≡ j + prefix (row-before (cidOf (getD s i []))) (drop j l)) where
-    passed : drop k l ≡ drop (prefix (row-before (cidOf (getD s i []))) (drop j l)) (drop j l)
-    passed = ap (λ (n : ℕ). drop n l) e ∙ sym (drop-drop (prefix (row-before (cidOf (getD s i []))) (drop j l)) j l)
-
     agree : (d : Cid) → before d (cidOf (getD s i [])) ≡ false → has (map pairOf (drop k l)) d ≡ has (map pairOf (drop j l)) d
-    agree d f = rw passed (has-skip (cidOf (getD s i [])) d (drop j l) f)
+    agree d f = rw (passed (cidOf (getD s i [])) l j k e) (has-skip (cidOf (getD s i [])) d (drop j l) f)
 
     pub walk-skip : Walk l all m s kept i k
     unfolding keep
@@ -138,8 +151,8 @@ module _ {l all : Rows} {m : ℕ} {s : Rows} {kept i j : ℕ} (w : Walk l all m 
     -- and the first that is left decides
     pub walk-has : Ascending key-before keyOf (map pairOf l) → owner (drop k l) (getD s i []) ≡ starts (cidOf (getD s i [])) (drop k l)
     walk-has a =
-        has-first (cidOf (getD s i [])) (drop k l) (rw (← (drop-map pairOf k l)) (ascending-drop key-before keyOf k (map pairOf l) a))
-        (rw passed (λ n. skip-stop (row-before (cidOf (getD s i []))) (drop j l) [] n))
+        has-first (cidOf (getD s i [])) (drop k l) (pairs-from k l a)
+        (rw (passed (cidOf (getD s i [])) l j k e) (λ n. skip-stop (row-before (cidOf (getD s i []))) (drop j l) [] n))
 
   pub walk-drop : owner (drop j l) (getD s i []) ≡ false → Walk l all m s kept (i + 1) j
   walk-drop e = record { done = compact-drop s m (owner (drop j l)) kept i [] h ls e ∙ w .done; rest = ahead .1 }
@@ -212,6 +225,12 @@ fresh o now (p ∷ ps) a e =
     rw x (fresh o now ps (rw f at a) e))
 
 -- ── the source's lowest expired pair ──
+-- a CID without a pair has no expired one
+lowest-none : (now : ℕ) (c : Cid) (ps : List Pair) → has ps c ≡ false → lowest now ps c ≡ none
+unfolding lowest any
+lowest-none now c [] h = refl
+lowest-none now c (p ∷ ps) h = split (same (p .cid) c) (λ e. clash (rw e) h) (λ e. rw e (lowest-none now c ps (rw e at h)))
+
 module _ (now : ℕ) (c : Cid) (row : List ℕ) (l : Rows) where
   pub lowest-hit : lapsed now c (pairOf row) ≡ true → lowest now (map pairOf (row ∷ l)) c ≡ some (pairOf row)
   unfolding lowest
@@ -221,38 +240,77 @@ module _ (now : ℕ) (c : Cid) (row : List ℕ) (l : Rows) where
   unfolding lowest
   lowest-miss e = rw e
 
+  -- from a pair after the CID on there is none of it
+  pub lowest-past : Ascending key-before keyOf (map pairOf (row ∷ l)) → before c (pairOf row .cid) ≡ true → lowest now (map pairOf (row ∷ l)) c ≡ none
+  unfolding any
+  lowest-past a e =
+      let s = same-not (pairOf row .cid) c (λ f. clash (rw f at e) (cid-order .irrefl c)) in
+      lowest-none now c (map pairOf (row ∷ l)) (rw s (has-above c (keyOf (pairOf row)) (map pairOf l) e (a .0)))
+
 -- ── the last note of the sources ──
-later-later : (a b c : Option Pair) → later a (later b c) ≡ later (later a b) c
-later-later a b none = refl
-later-later a b (some p) = refl
+later-noted : (a b : Option Pair) → noteOf (later a b) ≡ later-note (noteOf a) (noteOf b)
+later-noted a none = refl
+later-noted a (some p) = refl
 
-last-noted-append : (now : ℕ) (ps : List Pair) (xs ys : List Cid) → last-noted now ps (xs ++ ys) ≡ later (last-noted now ps xs) (last-noted now ps ys)
+later-later : (a b c : SweepAnswer) → later-note a (later-note b c) ≡ later-note (later-note a b) c
+later-later a b Quiet = refl
+later-later a b (TimedOut c u) = refl
+
+-- pairs that agree on every CID above c note the same of sources above c
+noted-agree : (now : ℕ) (ps qs : List Pair) (c : Cid) (s : Rows) → Under before cidOf c s → ((d : Cid) → before c d ≡ true → lowest now ps d ≡ lowest now qs d)
+    → last-noted now ps (map cidOf s) ≡ last-noted now qs (map cidOf s)
 unfolding last-noted
-last-noted-append now ps [] ys = found (last-noted now ps ys) (λ e. rw e) (λ p e. rw e)
-last-noted-append now ps (c ∷ xs) ys =
-    ap (later (lowest now ps c)) (last-noted-append now ps xs ys) ∙ later-later (lowest now ps c) (last-noted now ps xs) (last-noted now ps ys)
+noted-agree now ps qs c [] u h = refl
+noted-agree now ps qs c (r ∷ s) u h = rw (h (cidOf r) (u .0), noted-agree now ps qs c s (u .1) h)
 
-module _ (now : ℕ) (ps : List Pair) (s : Rows) (m k : ℕ) (h : k < m) (l : k < length s) where
-  -- the sources after place k note nothing
-  abbrev silent : Type 0
-  silent = last-noted now ps (map cidOf (drop (k + 1) (take m s))) ≡ none
+-- the sources before place i note last, those from i on are to be looked at; no pair row before place j has a CID of theirs
+pub record NoteWalk (now : ℕ) (l : Rows) (m : ℕ) (s : Rows) (last : SweepAnswer) (i j : ℕ) : Type 0 where
+  pub done : later-note last (noteOf (last-noted now (map pairOf (drop j l)) (map cidOf (drop i (take m s))))) ≡ noteOf (last-noted now (map pairOf l) (map cidOf (take m s)))
+  pub rest : Ascending before cidOf (drop i (take m s))
 
-  from-k : silent → last-noted now ps (map cidOf (drop k (take m s))) ≡ lowest now ps (cidOf (getD s k []))
+pub note-starts : (now : ℕ) (l : Rows) (m : ℕ) (s : Rows) → Ascending before itself (map cidOf (take m s)) → NoteWalk now l m s Quiet 0 0
+note-starts now l m s a = record { done = first (last-noted now (map pairOf l) (map cidOf (take m s))); rest = ascending-rows (take m s) a }
+  where
+    first : (o : Option Pair) → later-note Quiet (noteOf o) ≡ noteOf o
+    first none = refl
+    first (some p) = refl
+
+module _ {now : ℕ} {l : Rows} {m : ℕ} {s : Rows} {last : SweepAnswer} {i j : ℕ} (w : NoteWalk now l m s last i j) (h : i < m) (ls : i < length s) where
+  -- the CID that is looked at, and the sources behind it
+  abbrev own : Cid
+  own = cidOf (getD s i [])
+
+  behind : Ascending before cidOf (getD s i [] ∷ drop (i + 1) (take m s))
+  behind = rw (next s m i [] h ls) at (w .rest)
+
+  pub note-skip : (k : ℕ) → k ≡ j + prefix (row-before own) (drop j l) → NoteWalk now l m s last i k
   unfolding last-noted
-  from-k e = rw (next s m k [] h l, e)
+  note-skip k e =
+      let agree : (d : Cid) → before d own ≡ false → lowest now (map pairOf (drop k l)) d ≡ lowest now (map pairOf (drop j l)) d =
+      λ d f. rw (passed own l j k e) (lowest-skip now own d (drop j l) f) in
+      let a = agree own (cid-order .irrefl own) in
+      let b = noted-agree now (map pairOf (drop k l)) (map pairOf (drop j l)) own (drop (i + 1) (take m s)) (behind .0) (λ d f. agree d (asym before cid-order own d f)) in
+      let q : last-noted now (map pairOf (drop k l)) (map cidOf (drop i (take m s))) ≡ last-noted now (map pairOf (drop j l)) (map cidOf (drop i (take m s))) = rw (next s m i [] h ls, a, b) in
+      record { done = ap (λ (o : Option Pair). later-note last (noteOf o)) q ∙ w .done; rest = w .rest }
 
-  pub noted-on : silent → lowest now ps (cidOf (getD s k [])) ≡ none → last-noted now ps (map cidOf (drop k (take m s))) ≡ none
-  noted-on e f = from-k e ∙ f
+  -- what the CID's pairs note comes after the notes so far
+  pub note-on : (a : SweepAnswer) → a ≡ noteOf (lowest now (map pairOf (drop j l)) own) → NoteWalk now l m s (later-note last a) (i + 1) j
+  unfolding last-noted
+  note-on a e = record {
+    done =
+        let others = last-noted now (map pairOf (drop j l)) (map cidOf (drop (i + 1) (take m s))) in
+        sym (later-later last a (noteOf others))
+        ∙ ap (later-note last) (ap (λ (x : SweepAnswer). later-note x (noteOf others)) e ∙ sym (later-noted (lowest now (map pairOf (drop j l)) own) others))
+        ∙ ap (λ (t : Rows). later-note last (noteOf (last-noted now (map pairOf (drop j l)) (map cidOf t)))) (sym (next s m i [] h ls))
+        ∙ w .done;
+    rest = behind .1;
+  }
 
-  -- so the note of the source there is the last one
-  pub noted-hit : silent → (a : SweepAnswer) → a ≢ Quiet → noteOf (lowest now ps (cidOf (getD s k []))) ≡ a → noteOf (last-noted now ps (map cidOf (take m s))) ≡ a
-  noted-hit e a n f =
-      let whole = ap (λ (t : Rows). last-noted now ps (map cidOf t)) (sym (take-append-drop k (take m s)))
-      ∙ ap (last-noted now ps) (append-map cidOf (take k (take m s)) (drop k (take m s)))
-      ∙ last-noted-append now ps (map cidOf (take k (take m s))) (map cidOf (drop k (take m s))) in
-      found (lowest now ps (cidOf (getD s k [])))
-      (λ g. absurd (n (sym f ∙ ap noteOf g)))
-      (λ p g. let q = from-k e ∙ g in rw (whole, q) (ap noteOf (sym g) ∙ f))
+pub note-done : {now : ℕ} {l : Rows} {m : ℕ} {s : Rows} {last : SweepAnswer} {i j : ℕ} → NoteWalk now l m s last i j → drop i (take m s) ≡ []
+    → last ≡ noteOf (last-noted now (map pairOf l) (map cidOf (take m s)))
+unfolding last-noted
+note-done {now} {l} {m} {s} {last} {i} {j} w e =
+    ap (λ (t : Rows). later-note last (noteOf (last-noted now (map pairOf (drop j l)) (map cidOf t)))) (sym e) ∙ w .done
 
 -- the first source decides whether there is a note at all
 module _ (now : ℕ) (ps : List Pair) (s : Rows) (m : ℕ) (h : 0 < m) (l : 0 < length s) where

@@ -85,6 +85,11 @@ abbrev pub noteOf : Option Pair → SweepAnswer
 noteOf none = Quiet
 noteOf (some p) = TimedOut (p .cid) (p .universe)
 
+-- of two notes the later one
+abbrev pub later-note : SweepAnswer → SweepAnswer → SweepAnswer
+later-note a Quiet = a
+later-note a (TimedOut c u) = TimedOut c u
+
 -- what the walk along pairs and sources requires
 pub record Walkable (n : ℕ) (pairs : Rows) (m : ℕ) (sources : Rows) : Type 0 where
   pub n-fits : n ≤ capacity

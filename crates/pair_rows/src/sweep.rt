@@ -1,11 +1,12 @@
 // The parts of a sweep over the lent rows.
 ghost use mathlib.Core.Path.{_≡_};
 ghost use mathlib.Core.Bool.{not};
+ghost use mathlib.Core.List.{map};
 ghost use Prim.Native.Nat.{_≤_};
 ghost use lib.ListN.{length, take, drop};
-ghost use Rattle.laws.specs.Table.{keep};
-ghost use Rattle.pairs.specs.Table.{capacity, has, live, lowest, last-noted, noted};
-ghost use Rattle.pair_rows.specs.View.{pairsOf, sourcesOf, lonely, starts, lapsed, noteOf, Walkable};
+ghost use Rattle.laws.specs.Table.{keep, Ascending};
+ghost use Rattle.pairs.specs.Table.{capacity, keyOf, key-before, has, live, lowest, last-noted, noted};
+ghost use Rattle.pair_rows.specs.View.{pairOf, pairsOf, sourcesOf, lonely, starts, lapsed, noteOf, later-note, Walkable};
 use crate::PairRows;
 use crate::SourceRows;
 use crate::rows::cid_of;
@@ -117,17 +118,20 @@ pub fn is_lapsed(pair: Pair, cid: Cid, reading: u64) -> bool
     false
 }
 
-// The CID's expired pair of lowest universe.
-pub fn lowest_expired(pairs: &PairRows, n: usize, cid: Cid, reading: u64) -> SweepAnswer
-    requires { ⌜ (n ≤ capacity) × (length (now pairs) ≡ capacity) ⌝ }
-    ensures { λ r. ⌜ r ≡ noteOf (lowest reading (pairsOf n (now (pairs .entry))) cid) ⌝ }
+// Of the pairs from place j on the CID's expired one of lowest universe. A pair after the CID ends the walk.
+pub fn lowest_expired(pairs: &PairRows, n: usize, j: usize, cid: Cid, reading: u64) -> SweepAnswer
+    requires { ⌜ (n ≤ capacity) × (j ≤ n) × (length (now pairs) ≡ capacity) × Ascending key-before keyOf (pairsOf n (now pairs)) ⌝ }
+    ensures { λ r. ⌜ r ≡ noteOf (lowest reading (map pairOf (drop j (take n (now (pairs .entry))))) cid) ⌝ }
 {
-    let mut i: usize = 0;
+    let mut i = j;
     while i < n {
         let row = pairs[i];
         let pair = pair_of(row);
+        let own = pair.cid;
+        if cid.is_before(own) {
+            return SweepAnswer::Quiet;
+        }
         if is_lapsed(pair, cid, reading) {
-            let own = pair.cid;
             return SweepAnswer::TimedOut(own, pair.universe);
         }
         i += 1;
@@ -135,7 +139,17 @@ pub fn lowest_expired(pairs: &PairRows, n: usize, cid: Cid, reading: u64) -> Swe
     SweepAnswer::Quiet
 }
 
-// What the last of the m sources that has an expired pair notes.
+// Of two notes the later one.
+pub fn later_note(a: SweepAnswer, b: SweepAnswer) -> SweepAnswer
+    ensures { λ r. ⌜ r ≡ later-note a b ⌝ }
+{
+    let SweepAnswer::TimedOut(cid, universe) = b else {
+        return a;
+    };
+    SweepAnswer::TimedOut(cid, universe)
+}
+
+// What the last of the m sources that has an expired pair notes, by one walk along both lists.
 pub fn last_note(
     pairs: &PairRows,
     n: usize,
@@ -143,25 +157,26 @@ pub fn last_note(
     m: usize,
     reading: u64,
 ) -> SweepAnswer
-    requires { ⌜ (n ≤ capacity) × (length (now pairs) ≡ capacity) × (m ≤ capacity) × (length (now sources) ≡ capacity) ⌝ }
+    requires { ⌜ Walkable n (now pairs) m (now sources) ⌝ }
     ensures { λ r. ⌜ r ≡ noteOf (last-noted reading (pairsOf n (now (pairs .entry))) (sourcesOf m (now (sources .entry)))) ⌝ }
 {
-    let mut left = m;
-    while 0 < left {
-        left -= 1;
-        let row = sources[left];
+    let mut last = SweepAnswer::Quiet;
+    let mut i: usize = 0;
+    let mut j: usize = 0;
+    while i < m {
+        let row = sources[i];
         let cid = cid_of(row);
-        let SweepAnswer::TimedOut(source, universe) = lowest_expired(pairs, n, cid, reading) else {
-            continue;
-        };
-        return SweepAnswer::TimedOut(source, universe);
+        j = skip_before(pairs, n, j, cid);
+        let next = lowest_expired(pairs, n, j, cid, reading);
+        last = later_note(last, next);
+        i += 1;
     }
-    SweepAnswer::Quiet
+    last
 }
 
 // Nothing if the first source has no expired pair; else what the last one notes.
 pub fn note(pairs: &PairRows, n: usize, sources: &SourceRows, m: usize, reading: u64) -> SweepAnswer
-    requires { ⌜ (n ≤ capacity) × (length (now pairs) ≡ capacity) × (m ≤ capacity) × (length (now sources) ≡ capacity) ⌝ }
+    requires { ⌜ Walkable n (now pairs) m (now sources) ⌝ }
     ensures { λ r. ⌜ r ≡ noteOf (noted reading (pairsOf n (now (pairs .entry))) (sourcesOf m (now (sources .entry)))) ⌝ }
 {
     if m == 0 {
@@ -169,7 +184,7 @@ pub fn note(pairs: &PairRows, n: usize, sources: &SourceRows, m: usize, reading:
     }
     let row = sources[0];
     let cid = cid_of(row);
-    let SweepAnswer::TimedOut(_, _) = lowest_expired(pairs, n, cid, reading) else {
+    let SweepAnswer::TimedOut(_, _) = lowest_expired(pairs, n, 0, cid, reading) else {
         return SweepAnswer::Quiet;
     };
     last_note(pairs, n, sources, m, reading)
