@@ -20,8 +20,9 @@ use Rattle.model.specs.Packet.{DataPacket, Packet, data-packet, too-long}
 use Rattle.model.specs.Step.{too-short}
 use Rattle.receiver.specs.declared.Receiver.{Receiver}
 use Rattle.receiver.specs.View.{Memory, spaceIn, reading-noted, Kept}
-use Rattle.steps.specs.View.{Opens, Ready, Takes, TakesShort}
-use Rattle.steps.specs.Laws.{opens-idle, ready-held}
+use Rattle.opening.specs.View.{Opens, Ready}
+use Rattle.steps.specs.View.{Takes, TakesShort}
+use Rattle.opening.specs.Laws.{opens-idle, ready-held}
 use Rattle.handlers.specs.View.{Steps, StepsShort}
 
 module _ (S : Settings) (now : ℕ) (p : Packet) (r : Receiver) (m : Memory) (out : List ℕ) (k : Kept r m) (long : Option ℕ) (l : too-long p ≡ long)

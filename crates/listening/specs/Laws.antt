@@ -12,7 +12,7 @@ use lib.Dec.{ltb}
 use lib.ListN.{length, take, drop, getD, length-take}
 use lib.Seq.{drop-cons, getD-take}
 use borrow.Author.Tests.{lt-ltb, le-ltb}
-use Rattle.laws.specs.Cases.{found}
+use Rattle.laws.specs.Cases.{found, split}
 use Rattle.laws.specs.Order.{ℕ-order}
 use Rattle.laws.specs.Table.{find, store, remove, find-key, store-known, ascending-store, ascending-remove, length-store-new, length-store-known}
 use Rattle.laws.specs.Place.{place, insertAt, removeAt, prefix-le, present, absent, absent-end, found-place, store-insert, remove-place}
@@ -214,3 +214,13 @@ module _ (u : ℕ) (l : Listened) (rows : List ℕ) (k : Kept l rows) where
         kept = record { room = g; within = r; ascending = rw s (ascending-remove ltb itself ℕ-order u (listenedOf l rows) (k .ascending)) };
         refused = λ e. absurd (e refl);
       }
+
+-- ── a list that is refused ──
+-- an address that is refused leaves the list
+pub refused-list : (us L : List ℕ) → listen-all us L .1 ≢ listen.Listening → listen-all us L .0 ≡ L
+refused-list us L n =
+    found (illegal us)
+    (λ e. split (ltb most-listened (length (joined-by us L)))
+    (λ f. unfold listen-all in cc)
+    (λ f. absurd (n (unfold listen-all in cc))))
+    (λ u e. unfold listen-all in cc)

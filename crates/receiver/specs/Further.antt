@@ -45,8 +45,8 @@ use Rattle.model.specs.Answer.{pollNumber, expiryNumber, listenNumber, muteNumb
 use Rattle.model.specs.State.{State, listens}
 use Rattle.model.specs.Step.{short, waiting-bytes, page-bytes, poll, with-waiting, with-listened, with-discovered}
 use Rattle.model.specs.Calls.{polled-by, poll-call, expiry-call, listen-call, muted, mute-call, clear-call, clear-all-call, reset-call}
-use Rattle.arrivals.specs.View.{Polls}
-use Rattle.arrivals.specs.Laws.{refused-list}
+use Rattle.timeouts.specs.View.{Polls}
+use Rattle.listening.specs.Laws.{refused-list}
 use Rattle.receiver.specs.declared.Receiver.{Receiver}
 use Rattle.receiver.specs.View.{Memory, sequencesIn, with-sequence-rows, with-waiting-rows, with-listened-rows, with-discovery-rows, stateOf, Kept, leaves-all, Begins, Does, Becomes}
 use Rattle.lengths.specs.Finds.{room-for}

@@ -12,8 +12,6 @@ ghost use Rattle.receiver.specs.View.{Memory, with-listened-rows, stateO
 ghost use Rattle.sequences.specs.Contracts.{sequence-rows-in};
 ghost use Rattle.receiver.specs.Contracts.{sequences-lent, waiting-lent, listened-lent, discovery-lent};
 ghost use Rattle.model.specs.Step.{most-listened};
-use arrivals::is_idle;
-use arrivals::poll;
 use discovery_calls::Discovery;
 use discovery_rows::HeadRows;
 use discovery_rows::NameRows;
@@ -34,6 +32,8 @@ use pairs::SweepAnswer;
 use rules::E131_NETWORK_DATA_LOSS_TIMEOUT;
 use sequences::SequenceNumbering;
 use settings::Settings;
+use timeouts::is_idle;
+use timeouts::poll;
 use waiting_calls::Waiting;
 use waiting_store::EntryRows;
 

@@ -1,6 +1,4 @@
-// Document 01, 'The receiver', the parts of a step: its opening (lengths, then the poll), and what each kind of packet does behind it. Crate handlers calls them in the order of a step.
-ghost use mathlib.Core.Path.{_≡_};
-ghost use mathlib.Core.Bool.{true, not, _&&_};
+// Document 01, 'The receiver', 3 to 5 of a step: what each kind of packet does behind the opening. Crate handlers calls them in the order of a step.
 ghost use mathlib.Core.List.{List};
 ghost use Prim.Native.Nat.{ℕ, _≤_};
 ghost use lib.ListN.{length};
@@ -10,40 +8,33 @@ ghost use Rattle.sequences.specs.View as sequences;
 ghost use Rattle.discovery_calls.specs.View as discovery;
 ghost use Rattle.pair_tables.specs.View as pairs;
 ghost use Rattle.model.specs.Packet.{data-packet, sync-packet, discovery-packet};
-ghost use Rattle.model.specs.Step.{listed};
-ghost use Rattle.packets.specs.View.{packetOf, syncOf};
+ghost use Rattle.packets.specs.View.{packetOf, syncOf, announcementOf};
 ghost use Rattle.laws.specs.Lent.{untouched};
-ghost use Rattle.receiver.specs.View.{Memory, with-discovery-rows, KeptWaiting, Kept};
+ghost use Rattle.receiver.specs.View.{Memory, Kept};
 ghost use Rattle.sequences.specs.Contracts.{sequence-rows-in};
 ghost use Rattle.receiver.specs.Contracts.{lent, sequences-lent, data-lent, sync-lent, waiting-lent, listened-lent, discovery-lent};
 ghost use Rattle.waiting.specs.Records.{most-bytes};
 ghost use Rattle.merge.specs.Merge.{most-values};
 ghost use Rattle.discovery.specs.Discovery.{most-name, most-universes};
-ghost use Rattle.packets.specs.View.{announcementOf};
-ghost use Rattle.lengths.specs.Finds.{longOf};
-ghost use Rattle.lengths.specs.Space.{spaceOf};
-ghost use Rattle.steps.specs.View.{courseOf, Opens, Ready, Ends, called, Tells, Takes, TakesShort};
+ghost use Rattle.steps.specs.View.{Ends, Takes, TakesShort};
+use answers::called_answer;
 use arrivals::Short;
 use arrivals::arrive_data;
 use arrivals::arrive_sync;
-use arrivals::is_idle;
-use arrivals::poll;
 use arrivals::release_known;
-use discovery::PageAnswer;
-use discovery::PageCall;
 use discovery_rows::HeadRows;
 use discovery_rows::NameRows;
 use discovery_rows::PageRows;
-use lengths::Measured;
-use lengths::test_space;
 use listening::ListenedUniverses;
 use model::StepAnswer;
+use packets::Course;
 use packets::DataPacket;
 use packets::DiscoveryPacket;
 use packets::SyncPacket;
+use packets::course_of;
+use packets::is_unwanted;
 use pair_rows::PairRows;
 use pair_rows::SourceRows;
-use pairs::SweepAnswer;
 use receiver::Receiver;
 use rules::Cid;
 use sequences::SequenceNumbering;
@@ -54,177 +45,6 @@ use waiting_store::EntryRows;
 pub struct Handled {
     pub receiver: Receiver,
     pub answer: StepAnswer,
-}
-
-// What lengths and poll leave, and whether they end the step.
-pub struct Opened {
-    pub receiver: Receiver,
-    pub stopped: bool,
-    pub answer: StepAnswer,
-}
-
-// What a page's arrival answers, as the step's answer.
-fn listed_answer(a: PageAnswer, settings: Settings) -> StepAnswer
-    ensures { λ r. ⌜ r ≡ listed settings a ⌝ }
-{
-    match a {
-        PageAnswer::Taken => StepAnswer::Nothing,
-        PageAnswer::Listed => {
-            if settings.announce_source_discovery {
-                return StepAnswer::SourceDiscovered;
-            }
-            StepAnswer::Nothing
-        }
-        PageAnswer::PagesFull => StepAnswer::PagesFull,
-    }
-}
-
-// What the call for a page answers, as the step's answer.
-fn called_answer(a: PageCall, settings: Settings) -> StepAnswer
-    ensures answer { λ r. ⌜ r ≡ called settings a ⌝ }
-    ensures told { λ r. ⌜ Tells a r ⌝ }
-{
-    match a {
-        PageCall::Done(p) => listed_answer(p, settings),
-        PageCall::TooLong(n) => StepAnswer::TooLong(n),
-    }
-}
-
-// Preview data that is not wanted.
-fn is_unwanted(preview: bool, settings: Settings) -> bool
-    ensures { λ r. ⌜ r ≡ preview && not (settings .«process_preview_data») ⌝ }
-{
-    if settings.process_preview_data {
-        return false;
-    }
-    preview
-}
-
-// What is done with a data packet that is wanted.
-enum Course {
-    End,
-    Arrive,
-    Pass,
-}
-
-// A termination is carried out before all else; the sequence is looked at only where the universe is listened to.
-fn course_of(terminated: bool, listening: bool) -> Course
-    ensures { λ r. ⌜ r ≡ courseOf terminated listening ⌝ }
-{
-    if terminated {
-        return Course::End;
-    }
-    if listening {
-        return Course::Arrive;
-    }
-    Course::Pass
-}
-
-// 1 and 2 of a step: lent memory, the packet's own parts, then the poll.
-pub fn open(
-    receiver: Receiver,
-    data_pairs: &mut PairRows,
-    data_sources: &mut SourceRows,
-    sync_pairs: &mut PairRows,
-    sync_sources: &mut SourceRows,
-    rows: &mut EntryRows,
-    store: &mut [u8],
-    universes: &[u16],
-    settings: Settings,
-    reading: u64,
-    part: Measured,
-    out: &[u8],
-) -> Opened
-    requires sequences { ⌜ sequences.Kept (receiver .sequences) (sequence-rows-in «data_pairs» «data_sources» «sync_pairs» «sync_sources») ⌝ }
-    requires waiting { ⌜ KeptWaiting (receiver .waiting .count) (now rows) (now store) ⌝ }
-    ensures { λ r. ⌜ ((rest : Memory) (sources names pages : List (List ℕ)) →
-        let m = sequences-lent «data_pairs» «data_sources» «sync_pairs» «sync_sources» (waiting-lent rows store
-        (untouched (with-discovery-rows sources names pages (now (universes .entry)) rest))) in
-        Opens settings reading (longOf part) receiver (m .entry) (now (out .entry)) (r .receiver) (m .exit) (r .stopped) (r .answer)) ⌝ }
-{
-    if let Measured::TooShort(needed) = test_space(out, &*store, universes) {
-        return Opened {
-            receiver: receiver,
-            stopped: true,
-            answer: StepAnswer::TooShort(needed),
-        };
-    }
-    if let Measured::TooLong(length) = part {
-        return Opened {
-            receiver: receiver,
-            stopped: true,
-            answer: StepAnswer::TooLong(length),
-        };
-    }
-    let q = receiver.sequences;
-    let w = receiver.waiting;
-    if is_idle(q, w, settings, reading) {
-        let stopped = false;
-        let answer = StepAnswer::Nothing;
-        return Opened {
-            receiver,
-            stopped,
-            answer,
-        };
-    }
-    let listened = receiver.listened;
-    let discovery = receiver.discovery;
-    let p = poll(
-        q,
-        w,
-        data_pairs,
-        data_sources,
-        sync_pairs,
-        sync_sources,
-        rows,
-        store,
-        settings,
-        reading,
-    );
-    let sequences = p.sequences;
-    let waiting = p.waiting;
-    let said = p.answer;
-    let next = Receiver {
-        sequences,
-        waiting,
-        listened,
-        discovery,
-    };
-    let SweepAnswer::TimedOut(cid, universe) = said else {
-        return Opened {
-            receiver: next,
-            stopped: false,
-            answer: StepAnswer::Nothing,
-        };
-    };
-    Opened {
-        receiver: next,
-        stopped: true,
-        answer: StepAnswer::UniverseTimeout(cid, universe),
-    }
-}
-
-// The lengths fit, and the poll has nothing to do: the opening would leave all and let the packet be taken.
-pub fn is_ready(
-    receiver: Receiver,
-    store: &[u8],
-    universes: &[u16],
-    settings: Settings,
-    reading: u64,
-    part: Measured,
-    out: &[u8],
-) -> bool
-    ensures { λ r. ⌜ (r ≡ true → Ready settings reading (longOf part) receiver (spaceOf (now (out .entry)) (now (store .entry)) (now (universes .entry)))) ⌝ }
-{
-    if let Measured::TooShort(_) = test_space(out, store, universes) {
-        return false;
-    }
-    if let Measured::TooLong(_) = part {
-        return false;
-    }
-    let q = receiver.sequences;
-    let w = receiver.waiting;
-    is_idle(q, w, settings, reading)
 }
 
 // 3, the short way: no preview, no termination, a listened universe, and what `release_known` asks for. Otherwise all is left.

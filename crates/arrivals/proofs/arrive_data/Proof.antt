@@ -3,7 +3,8 @@
 use mathlib.Core.Path.{sym, subst, _∙_}
 use Rattle.model.specs.declared.StepAnswer.{StepAnswer}
 use Rattle.packets.specs.View.{packetOf}
-use Rattle.arrivals.specs.View.{lentOf, rowsOf, Arrives}
+use Rattle.acceptance.specs.View.{lentOf}
+use Rattle.arrivals.specs.View.{rowsOf, Arrives}
 use Rattle.arrivals.specs.Laws.{arrives-accepted, arrives-stopped}
 use borrow.Author.Needs.{needs}
 use Rattle.arrivals.proofs.arrive_data.Statement.{statement}
@@ -11,8 +12,8 @@ use Rattle.arrivals.proofs.arrive_data.Tie as tie
 use Rattle.arrivals.proofs.arrive_data.Reads as reads
 use Rattle.arrivals.proofs.arrive_data.Lts as lts
 use Rattle.pair_tables.proofs.DataTable.check_seq_number.Reads as check-seq-number-reads
-use Rattle.arrivals.proofs.accept_data.Reads as accept-data-reads
-use Rattle.arrivals.proofs.stop_answer.Reads as stop-answer-reads
+use Rattle.acceptance.proofs.accept_data.Reads as accept-data-reads
+use Rattle.answers.proofs.stop_answer.Reads as stop-answer-reads
 
 check-seq-number-requires : tie.Need-check-seq-number-requires
 check-seq-number-requires c κs = search needs

@@ -11,8 +11,8 @@ use Rattle.arrivals.proofs.arrive_sync.Tie as tie
 use Rattle.arrivals.proofs.arrive_sync.Reads as reads
 use Rattle.arrivals.proofs.arrive_sync.Lts as lts
 use Rattle.pair_tables.proofs.SyncTable.check_seq_number.Reads as check-seq-number-reads
-use Rattle.arrivals.proofs.release_answer.Reads as release-answer-reads
-use Rattle.arrivals.proofs.stop_answer.Reads as stop-answer-reads
+use Rattle.answers.proofs.release_answer.Reads as release-answer-reads
+use Rattle.answers.proofs.stop_answer.Reads as stop-answer-reads
 use Rattle.waiting_calls.proofs.Waiting.rtrv_waiting_data.Reads as rtrv-waiting-data-reads
 
 check-seq-number-requires : tie.Need-check-seq-number-requires

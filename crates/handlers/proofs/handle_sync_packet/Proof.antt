@@ -4,7 +4,7 @@ use Rattle.model.specs.Packet.{sync-packet}
 use Rattle.packets.specs.View.{syncOf}
 use Rattle.receiver.specs.View.{memory}
 use Rattle.lengths.specs.Finds.{long-sync}
-use Rattle.steps.specs.Laws.{ready-output, ready-held}
+use Rattle.opening.specs.Laws.{ready-output, ready-held}
 use Rattle.handlers.specs.Laws.{steps-stopped, steps-taken}
 use borrow.Author.Needs.{needs}
 use Rattle.handlers.proofs.handle_sync_packet.Statement.{statement}

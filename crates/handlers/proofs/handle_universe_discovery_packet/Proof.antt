@@ -5,7 +5,7 @@ use Rattle.model.specs.Packet.{discovery-packet}
 use Rattle.receiver.specs.View.{memory}
 use Rattle.packets.specs.View.{announcementOf}
 use Rattle.lengths.specs.Finds.{long-announcement, name-fits, list-fits}
-use Rattle.steps.specs.Laws.{ready-found}
+use Rattle.opening.specs.Laws.{ready-found}
 use Rattle.handlers.specs.Laws.{steps-stopped, steps-taken}
 use borrow.Author.Needs.{needs}
 use Rattle.handlers.proofs.handle_universe_discovery_packet.Statement.{statement}

@@ -5,7 +5,7 @@ use Rattle.model.specs.Packet.{data-packet}
 use Rattle.packets.specs.View.{packetOf}
 use Rattle.receiver.specs.View.{memory}
 use Rattle.lengths.specs.Finds.{long-data, values-fit}
-use Rattle.steps.specs.Laws.{ready-output, ready-held, ready-found}
+use Rattle.opening.specs.Laws.{ready-output, ready-held, ready-found}
 use Rattle.handlers.specs.Laws.{steps-stopped, steps-taken}
 use borrow.Author.Needs.{needs}
 use Rattle.handlers.proofs.step_data.Statement.{statement}

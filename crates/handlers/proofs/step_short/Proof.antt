@@ -4,7 +4,7 @@ use mathlib.Core.Path.{_∙_}
 use Rattle.packets.specs.View.{packetOf}
 use Rattle.receiver.specs.View.{with-data-rows, with-listened-rows, with-waiting-rows, with-discovery-rows}
 use Rattle.lengths.specs.Finds.{longOf, long-data, values-fit}
-use Rattle.steps.specs.Laws.{long-enough}
+use Rattle.opening.specs.Laws.{long-enough}
 use Rattle.handlers.specs.Laws.{steps-short, steps-short-nothing}
 use borrow.Author.Needs.{needs}
 use Rattle.handlers.proofs.step_short.Statement.{statement}

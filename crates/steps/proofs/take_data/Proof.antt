@@ -4,7 +4,8 @@ use mathlib.Core.Path.{sym, _∙_}
 use Rattle.sequences.specs.View.{lent}
 use Rattle.packets.specs.View.{packetOf}
 use Rattle.receiver.specs.View.{memory}
-use Rattle.steps.specs.Laws.{course-end, course-arrive, course-pass, takes-unwanted, takes-ended, takes-unheard, takes-data}
+use Rattle.packets.specs.Laws.{course-end, course-arrive, course-pass}
+use Rattle.steps.specs.Laws.{takes-unwanted, takes-ended, takes-unheard, takes-data}
 use borrow.Author.Needs.{needs}
 use Rattle.steps.proofs.take_data.Statement.{statement}
 use Rattle.steps.proofs.take_data.Tie as tie

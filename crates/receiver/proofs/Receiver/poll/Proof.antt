@@ -5,7 +5,7 @@ use denote.Enum.Declared.{tagOf}
 use Rattle.lengths.proofs.Measured as measures
 use Rattle.pairs.specs.declared.SweepAnswer.the-variants.{Quiet}
 use Rattle.sequences.specs.View.{lent}
-use Rattle.arrivals.specs.Laws.{polls-idle}
+use Rattle.timeouts.specs.Laws.{polls-idle}
 use Rattle.receiver.specs.View.{with-sequence-rows, with-waiting-rows}
 use Rattle.lengths.specs.Finds.{short-of, not-short, room-for}
 use Rattle.receiver.specs.Further.{does-poll-short, does-poll, does-poll-told}
