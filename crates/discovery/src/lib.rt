@@ -9,7 +9,7 @@ pub const PAGE_UNIVERSES: usize = 512;
 // "name over 63 | 1": `most-name`; `page_arrives` is proved with both.
 pub const NAME: usize = 63;
 
-// The pool of universes, all pages full: `pool-length`, by the function `pool_length` of discovery_rows.
+// The pool of universes, all pages full: `pool-length`, by the function `pool_length` of discovery_pages.
 pub const POOL: usize = PAGES * PAGE_UNIVERSES;
 
 // What a page's arrival answers.

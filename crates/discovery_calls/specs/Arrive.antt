@@ -23,7 +23,7 @@ use Rattle.discovery.specs.declared.PageCall.{PageCall}
 use Rattle.discovery.specs.declared.PageCall.the-variants.{Done, TooLong}
 use Rattle.discovery.specs.declared.PageAnswer.the-variants.{Taken, Listed, PagesFull}
 use Rattle.discovery.specs.Discovery.{Source, Discovered, Announcement, Note, begin, extend, list, told, lookup, drop-source, relisted, updated, numbered, complete, extended, begun, noted, noting, taken, arrived, too-long, page-call, numberOf, callNumber, pages-held, capacity, overfull, most-name, most-universes}
-use Rattle.discovery_rows.specs.Lent.{Lent, lent-none, lent-then}
+use Rattle.discovery_pages.specs.Lent.{Lent, lent-none, lent-then}
 use Rattle.discovery.specs.Laws.{none-lookup, lookup-cid, partial-noting, extended-cid, extended-last}
 use Rattle.discovery.specs.Kept.{dropped-none, count-keep}
 use Rattle.discovery_rows.specs.Store.{Head, heads-of, pages-at, viewOf, lookup-pages}

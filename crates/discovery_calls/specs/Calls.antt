@@ -20,13 +20,15 @@ use Rattle.discovery.specs.Discovery.{Page, Source, Discovered, Announcement, l
 use Rattle.discovery.specs.Laws.{lookup-none, none-lookup, lookup-cid}
 use Rattle.discovery.specs.Kept.{Fitting, proper-begun, proper-extended, proper-lookup, sorted-added, ordered-noting, length-extended, lookup-extended, pages-of, count-drop, count-append, once-drop, once-append, all-keep, all-append}
 use Rattle.discovery_rows.specs.Store.{Head, Leaf, heads-of, pages-at, sources-at, viewOf, any-sources, lookup-pages, renewed, keep-single}
-use Rattle.discovery_rows.specs.Leaves.{behind, turned}
+use Rattle.discovery_pages.specs.Leaves.{behind, turned}
 use Rattle.discovery_calls.specs.Moves.{with-source, leafOf, view-with, sound-with, others, listed-head, view-turned, sound-turned, heads-turned, grown, view-extended, sound-extended}
-use Rattle.discovery_rows.specs.Pool.{pushed, dropped-past}
+use Rattle.discovery_rows.specs.Walks.{pushed}
+use Rattle.discovery_pages.specs.Pool.{dropped-past}
 use Rattle.discovery.specs.Discovery.{pool-length}
-use Rattle.discovery_rows.specs.Lent.{lent-none}
-use Rattle.discovery_rows.specs.Rows.{cidAt, owned, headOf, leafAt, leafWith, heads, leaves, total, amount, Few, Packs, turned-row, page-pushed, total-pushed, few-pushed, listed-row}
-use Rattle.discovery_rows.specs.Steps.{pool-room, pool-small}
+use Rattle.discovery_pages.specs.Lent.{lent-none}
+use Rattle.discovery_rows.specs.Rows.{cidAt, owned, headOf, leafAt, heads, leaves, total, amount, Few, turned-row, listed-row}
+use Rattle.discovery_pages.specs.Passes.{leafWith, Packs, page-pushed, total-pushed, few-pushed}
+use Rattle.discovery_pages.specs.Steps.{pool-room, pool-small}
 use Rattle.discovery_calls.specs.View.{headsOf, leavesOf, discoveredOf, Kept, Holds, Dropped, heads-append, length-leavesOf, kept-fewer, absent-heads, present-heads, heads-prefix, heads-removeAt, heads-set, heads-getD, kept-held, single-sound, length-heads}
 
 -- ── a source with one page is put behind the others of its mark ──

@@ -18,7 +18,7 @@ use Rattle.discovery.specs.Discovery.{Page, Source, Discovered, lookup, drop-so
 use Rattle.discovery.specs.Laws.{same-sym, lookup-none}
 use Rattle.discovery.specs.Kept.{once-drop, all-keep, count-keep, once-append, all-append, count-append, ordered-ended, any-append}
 use Rattle.discovery_rows.specs.Store.{Head, Leaf, owner, heads-of, held-by, pages-at, sourceOf, sources-at, viewOf, Marked, Housed, Sound, owner-path, owner-self, any-sources, sources-alike, sources-beside, sources-dropped, sources-dropped-other, sources-append, sources-append-other, lookup-pages, renewed, sources-renewed}
-use Rattle.discovery_rows.specs.Leaves.{pages-beside, behind, pages-placed, pages-dropped, pages-none, pages-empty, turned, pages-turned, pages-turned-beside, cut-leaf, pages-cut, pages-cut-beside, held-leaves}
+use Rattle.discovery_pages.specs.Leaves.{pages-beside, behind, pages-placed, pages-dropped, pages-none, pages-empty, turned, pages-turned, pages-turned-beside, cut-leaf, pages-cut, pages-cut-beside, held-leaves}
 
 -- ── an owner goes ──
 abbrev pub without : ℕ → Cid → Discovered → Discovered

@@ -19,9 +19,10 @@ use Rattle.discovery_calls.specs.declared.Discovery.{Discovery}
 use Rattle.discovery.specs.Discovery.{Page, Source, drop-source, current, swept, ended, Once, page-count, capacity}
 use Rattle.discovery.specs.Kept.{dropped-none}
 use Rattle.discovery_rows.specs.Store.{Head, heads-of, pages-at, sourceOf, sources-at, viewOf, Marked, owner-self, any-sources, prefix-none}
-use Rattle.discovery_rows.specs.Leaves.{cut-leaf}
+use Rattle.discovery_pages.specs.Leaves.{cut-leaf}
 use Rattle.discovery_calls.specs.Moves.{view-cut, sound-cut}
-use Rattle.discovery_rows.specs.Rows.{cidAt, headOf, heads, leaves, total, Packs, old-row}
+use Rattle.discovery_rows.specs.Rows.{cidAt, headOf, heads, leaves, total, old-row}
+use Rattle.discovery_pages.specs.Passes.{Packs}
 use Rattle.discovery_calls.specs.View.{headsOf, leavesOf, discoveredOf, Kept, Holds, Emptied, Dropped, heads-getD, length-headsOf}
 
 -- ── a universe ends ──

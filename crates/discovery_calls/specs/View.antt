@@ -17,10 +17,11 @@ use Rattle.discovery_calls.specs.declared.Discovery.{Discovery}
 use Rattle.discovery.specs.Discovery.{Discovered, pages-held, nothing-known, capacity}
 use Rattle.discovery_rows.specs.Store.{Head, Leaf, heads-of, held-by, pages-at, viewOf, Sound, Single, single-heads, keep-none, keep-single, prefix-none, prefix-any}
 use Rattle.discovery.specs.Discovery.{pool-length}
-use Rattle.discovery_rows.specs.Lent.{Lent, lent-none}
-use Rattle.discovery_rows.specs.Leaves.{held-leaves, heads-leaves, pages-none}
+use Rattle.discovery_pages.specs.Lent.{Lent, lent-none}
+use Rattle.discovery_pages.specs.Leaves.{held-leaves, heads-leaves, pages-none}
 use Rattle.discovery_calls.specs.Moves.{without, others, leaves-of-others, view-dropped, sound-dropped}
-use Rattle.discovery_rows.specs.Rows.{owned, headOf, heads, leaves, total, Packing, Packs, length-leaves}
+use Rattle.discovery_rows.specs.Rows.{owned, headOf, heads, leaves, total}
+use Rattle.discovery_pages.specs.Passes.{Packing, Packs, length-leaves}
 
 unfoldable pub headsOf : Discovery → List (List ℕ) → List (List ℕ) → List Head
 headsOf d sources names = heads (take (d .«source_count») sources) (take (d .«source_count») names)

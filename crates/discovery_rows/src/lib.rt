@@ -1,8 +1,6 @@
-// Discovery's lent memory: rows of sources and pages, and a pool of the pages' universes.
-// discovery_calls calls pages, pool and rows, discovery_reads calls owners.
+// Discovery's lent rows, of sources and of pages: whose a row is, and rows found, put in, taken out and turned.
+// discovery_pages calls owners and rows, discovery_calls rows, discovery_reads owners.
 pub mod owners;
-pub mod pages;
-pub mod pool;
 pub mod rows;
 
 use discovery::NAME;

@@ -11,7 +11,7 @@ use Rattle.rules.specs.Answer.{first-of}
 use Rattle.settings.specs.declared.Settings.{Settings}
 use Rattle.waiting.specs.Laws.{over-none}
 use Rattle.waiting_store.specs.Entries.{lent-then}
-use Rattle.discovery_rows.specs.Lent as pool
+use Rattle.discovery_pages.specs.Lent as pool
 use Rattle.arrivals.specs.declared.Short.{Short}
 use Rattle.arrivals.specs.declared.Short.the-variants as short
 use Rattle.model.specs.declared.StepAnswer.{StepAnswer}

@@ -25,7 +25,7 @@ use Rattle.waiting.specs.Waiting.{store-length}
 use Rattle.waiting_store.specs.Entries.{lent-none}
 use Rattle.waiting_store.specs.Entries as waiting
 use Rattle.discovery_calls.specs.View as discovery
-use Rattle.discovery_rows.specs.Lent as pool
+use Rattle.discovery_pages.specs.Lent as pool
 use Rattle.lengths.specs.Space.{spaceOf}
 use Rattle.model.specs.declared.StepAnswer.{StepAnswer}
 use Rattle.model.specs.declared.StepAnswer.the-variants as says

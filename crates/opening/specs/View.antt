@@ -11,7 +11,7 @@ use Rattle.settings.specs.declared.Settings.{Settings}
 use Rattle.pairs.specs.Table.{Key}
 use Rattle.pairs.specs.Answers.{answerOf, sweepNumberOf, sweepValuesOf}
 use Rattle.waiting_store.specs.Entries as waiting
-use Rattle.discovery_rows.specs.Lent as pool
+use Rattle.discovery_pages.specs.Lent as pool
 use Rattle.lengths.specs.declared.Measured.{Measured}
 use Rattle.lengths.specs.Space.{shortage, excess, measuredNumber, measuredValues}
 use Rattle.model.specs.declared.StepAnswer.{StepAnswer}

@@ -32,7 +32,7 @@ use Rattle.listening.specs.View as listening
 use Rattle.discovery_calls.specs.declared.Discovery.{Discovery}
 use Rattle.discovery.specs.Discovery.{pool-length, swept}
 use Rattle.discovery_calls.specs.View.{Holds, Emptied}
-use Rattle.discovery_rows.specs.Lent as pool
+use Rattle.discovery_pages.specs.Lent as pool
 use Rattle.lengths.specs.Space.{bytes}
 use Rattle.model.specs.declared.PollAnswer.the-variants as polling
 use Rattle.model.specs.declared.ExpiryAnswer.the-variants as expiry

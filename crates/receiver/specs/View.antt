@@ -16,7 +16,7 @@ use Rattle.listening.specs.View.{listenedOf}
 use Rattle.listening.specs.View as listening
 use Rattle.discovery_calls.specs.View.{discoveredOf}
 use Rattle.discovery_calls.specs.View as discovery
-use Rattle.discovery_rows.specs.Lent as pool
+use Rattle.discovery_pages.specs.Lent as pool
 use Rattle.lengths.specs.Space.{spaceOf}
 use Rattle.model.specs.State.{State, fresh}
 use Rattle.model.specs.Step.{Space}

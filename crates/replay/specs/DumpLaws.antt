@@ -10,7 +10,7 @@ use Rattle.laws.specs.Place.{append-map}
 use Rattle.rules.specs.declared.Cid.{Cid}
 use Rattle.discovery_calls.specs.declared.Discovery.{Discovery}
 use Rattle.discovery.specs.Discovery.{Page, Source}
-use Rattle.discovery_rows.specs.Rows.{Packing}
+use Rattle.discovery_pages.specs.Passes.{Packing}
 use Rattle.discovery_reads.specs.Reads.{page-of-row, source-of-row, pages-of, sources-of, PageAt, SourceAt, HeadRead}
 use Rattle.discovery_reads.specs.declared.SourceHead.{SourceHead}
 use Rattle.discovery_rows.specs.Store.{viewOf}

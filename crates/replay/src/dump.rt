@@ -9,7 +9,7 @@ ghost use Rattle.waiting_store.specs.Entries.{waitingOf};
 ghost use Rattle.waiting.specs.Waiting.{store-length};
 ghost use Rattle.waiting_store.specs.Entries.{Kept as WaitingKept};
 ghost use Rattle.listening.specs.View.{listenedOf};
-ghost use Rattle.discovery_rows.specs.Rows.{Packing};
+ghost use Rattle.discovery_pages.specs.Passes.{Packing};
 ghost use Rattle.discovery_calls.specs.View.{Kept as DiscoveryKept, discoveredOf};
 ghost use Rattle.discovery_reads.specs.Reads.{pages-of, sources-of};
 ghost use Rattle.receiver.specs.Contracts.{lent, lent-in};

@@ -30,7 +30,7 @@ use Rattle.discovery_calls.specs.declared.PageCalled.{PageCalled}
 use Rattle.discovery.specs.Discovery.{Discovered, arrived, ended}
 use Rattle.discovery_calls.specs.View.{discoveredOf, Holds}
 use Rattle.discovery_calls.specs.Arrive.{Called, page-call-fits}
-use Rattle.discovery_rows.specs.Lent as pool
+use Rattle.discovery_pages.specs.Lent as pool
 use Rattle.model.specs.declared.StepAnswer.{StepAnswer}
 use Rattle.model.specs.declared.StepAnswer.the-variants as says
 use Rattle.model.specs.Packet.{DataPacket, SyncPacket, Packet, data-packet, sync-packet, discovery-packet}

@@ -5,7 +5,7 @@ use lib.ListN.{length}
 use Rattle.discovery.specs.Discovery.{Announcement}
 use Rattle.discovery.specs.Kept.{Fitting}
 use Rattle.discovery_calls.specs.View.{Kept, kept-fewer}
-use Rattle.discovery_rows.specs.Steps.{pool-room, pool-small}
+use Rattle.discovery_pages.specs.Steps.{pool-room, pool-small}
 use Rattle.discovery_calls.specs.Calls.{source-added}
 use borrow.Author.Needs.{needs}
 use Rattle.discovery_calls.proofs.Discovery.add_source.Statement.{statement}

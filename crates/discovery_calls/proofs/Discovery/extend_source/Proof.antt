@@ -5,7 +5,7 @@ use lib.ListN.{length}
 use Rattle.discovery.specs.Discovery.{Announcement}
 use Rattle.discovery.specs.Kept.{Fitting}
 use Rattle.discovery_calls.specs.View.{Kept, kept-fewer}
-use Rattle.discovery_rows.specs.Steps.{pool-small}
+use Rattle.discovery_pages.specs.Steps.{pool-small}
 use Rattle.discovery_calls.specs.Calls.{pages-rising, source-extended}
 use borrow.Author.Needs.{needs}
 use Rattle.discovery_calls.proofs.Discovery.extend_source.Statement.{statement}

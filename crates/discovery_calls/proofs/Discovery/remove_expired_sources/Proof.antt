@@ -7,7 +7,7 @@ use lib.ListN.{take}
 use Rattle.laws.specs.Place.{prefix}
 use Rattle.discovery.specs.Discovery.{swept}
 use Rattle.discovery_calls.specs.View.{Kept, discoveredOf}
-use Rattle.discovery_rows.specs.Lent.{Lent, lent-none, lent-then}
+use Rattle.discovery_pages.specs.Lent.{Lent, lent-none, lent-then}
 use Rattle.discovery_rows.specs.Rows.{old-row}
 use Rattle.discovery_calls.specs.Sweep.{sweep-done, sweep-mark, sweep-there, sweep-turn}
 use borrow.Author.Needs.{needs}

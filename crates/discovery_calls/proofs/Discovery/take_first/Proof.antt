@@ -9,7 +9,7 @@ use borrow.Author.Tests.{eq-eqb, ne-eqb}
 use Rattle.discovery.specs.Discovery.{Announcement, begun}
 use Rattle.discovery_calls.specs.Moves.{with-source}
 use Rattle.discovery_calls.specs.View.{Kept}
-use Rattle.discovery_rows.specs.Lent.{lent-then}
+use Rattle.discovery_pages.specs.Lent.{lent-then}
 use Rattle.discovery_calls.specs.Arrive.{dropped-fewer, took-first, took-begun}
 use borrow.Author.Needs.{needs}
 use Rattle.discovery_calls.proofs.Discovery.take_first.Statement.{statement}

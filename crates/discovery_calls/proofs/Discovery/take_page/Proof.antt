@@ -4,7 +4,7 @@
 use native.Mathlib.Omega.{arith}
 use lib.ListN.{take}
 use Rattle.discovery.specs.Discovery.{Announcement}
-use Rattle.discovery_rows.specs.Steps.{place-sooner}
+use Rattle.discovery_rows.specs.Walks.{place-sooner}
 use Rattle.discovery_calls.specs.View.{Kept, absent-heads}
 use Rattle.discovery_calls.specs.Arrive.{arrival-full, arrival-taken}
 use borrow.Author.Needs.{needs}

@@ -9,7 +9,7 @@ use lib.ListN.{take, drop, getD}
 use Rattle.laws.specs.Place.{prefix, prefix-past}
 use Rattle.laws.specs.Arrays.{prefix-stays, prefix-goes, spent}
 use Rattle.discovery_rows.specs.Rows.{owned}
-use Rattle.discovery_rows.specs.Steps.{place-within}
+use Rattle.discovery_rows.specs.Walks.{place-within}
 use borrow.Author.Needs.{needs}
 use Rattle.discovery_rows.proofs.rows.find_from.Statement.{statement}
 use Rattle.discovery_rows.proofs.rows.find_from.Tie as tie

@@ -6,7 +6,7 @@ use native.Mathlib.Omega.{arith}
 use native.Mathlib.Numerals.{add-one}
 use lib.ListN.{length, take, getD, length-set}
 use lib.Seq.{take-all, take-suc}
-use Rattle.discovery_rows.specs.Pool.{pushed}
+use Rattle.discovery_rows.specs.Walks.{pushed}
 use borrow.Author.Needs.{needs}
 use Rattle.discovery.specs.Discovery.{most-name}
 use Rattle.discovery_rows.proofs.rows.name_row.Statement.{statement}

@@ -7,7 +7,7 @@ use Prim.Native.Nat.{ℕ, _≤_, _-_}
 use native.Mathlib.Omega.{arith}
 use lib.ListN.{length, take, drop, getD, length-set}
 use Rattle.discovery_rows.specs.Rows.{owned, turned-row, taken-more, map-more}
-use Rattle.discovery_rows.specs.Pool.{pushed, further-read, further, read-first}
+use Rattle.discovery_rows.specs.Walks.{pushed, further-read, further, read-first}
 use borrow.Author.Needs.{needs}
 use Rattle.discovery.specs.Discovery.{capacity}
 use Rattle.discovery_rows.proofs.rows.turn_pages.Statement.{statement}

@@ -7,7 +7,7 @@ use native.Mathlib.Omega.{arith}
 use lib.ListN.{length, take, getD, set, length-set}
 use Rattle.laws.specs.Place.{removeAt}
 use Rattle.discovery.specs.Discovery.{capacity}
-use Rattle.discovery_rows.specs.Pool.{pushed}
+use Rattle.discovery_rows.specs.Walks.{pushed}
 use borrow.Author.Needs.{needs}
 use Rattle.discovery_rows.proofs.rows.turn_source.Statement.{statement}
 use Rattle.discovery_rows.proofs.rows.turn_source.Tie as tie

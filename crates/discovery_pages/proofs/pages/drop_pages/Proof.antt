@@ -7,11 +7,12 @@ use Prim.Native.Nat.{_<_, _-_, _+_}
 use native.Mathlib.Omega.{arith}
 use lib.ListN.{take, drop, getD}
 use Rattle.laws.specs.Table.{keep}
 use Rattle.discovery_rows.specs.Store.{Leaf, held-by}
-use Rattle.discovery_rows.specs.Rows.{leaves, leafAt, amount, owned, Pass, pass-start, pass-row, pass-few, pass-room, pass-skip, pass-put, pass-end, image-gone, image-kept}
+use Rattle.discovery_rows.specs.Rows.{leaves, leafAt, amount, owned}
+use Rattle.discovery_pages.specs.Passes.{Pass, pass-start, pass-row, pass-few, pass-room, pass-skip, pass-put, pass-end, image-gone, image-kept}
 use borrow.Author.Needs.{needs}
-use Rattle.discovery_rows.proofs.pages.drop_pages.Statement.{statement}
-use Rattle.discovery_rows.proofs.pages.drop_pages.Tie as tie
+use Rattle.discovery_pages.proofs.pages.drop_pages.Statement.{statement}
+use Rattle.discovery_pages.proofs.pages.drop_pages.Tie as tie
 
 abbrev Inv-loop : tie.InvT-loop
 Inv-loop pages₀ universes₀ count mark cid kept₀ to₀ from₀ i₀ pages universes kept to from i = Pass count pages₀ universes₀ (keep (λ l. not (held-by mark cid l)) (leaves (take i pages₀) universes₀)) pages universes kept to from i

@@ -5,11 +5,13 @@ use mathlib.Core.Bool.{not}
 use Prim.Native.Nat.{_≤_}
 use native.Mathlib.Omega.{arith}
 use lib.ListN.{length}
-use Rattle.discovery_rows.specs.Rows.{larger, few-less}
-use Rattle.discovery_rows.specs.Steps.{offset-inside, pool-room, place-within, page-inserted}
+use Rattle.discovery_rows.specs.Rows.{larger}
+use Rattle.discovery_pages.specs.Passes.{few-less}
+use Rattle.discovery_rows.specs.Walks.{place-within}
+use Rattle.discovery_pages.specs.Steps.{offset-inside, pool-room, page-inserted}
 use borrow.Author.Needs.{needs}
-use Rattle.discovery_rows.proofs.pages.add_page.Statement.{statement}
-use Rattle.discovery_rows.proofs.pages.add_page.Tie as tie
+use Rattle.discovery_pages.proofs.pages.add_page.Statement.{statement}
+use Rattle.discovery_pages.proofs.pages.add_page.Tie as tie
 
 page-place-requires : tie.Need-page-place-requires
 page-place-requires c κs = search needs

@@ -5,10 +5,10 @@ use mathlib.Core.Bool.{true, false}
 use mathlib.Core.List.{[]}
 use Prim.Native.Nat.{_-_}
 use lib.ListN.{getD}
 use Rattle.discovery_rows.specs.Rows.{owned}
 use borrow.Author.Needs.{needs}
-use Rattle.discovery_rows.proofs.pages.goes_last.Statement.{statement}
-use Rattle.discovery_rows.proofs.pages.goes_last.Tie as tie
+use Rattle.discovery_pages.proofs.pages.goes_last.Statement.{statement}
+use Rattle.discovery_pages.proofs.pages.goes_last.Tie as tie
 
 sub-row : tie.Need-sub-row
 sub-row c = search needs

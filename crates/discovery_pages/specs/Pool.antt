@@ -1,4 +1,4 @@
--- The turns of loops over the pool: an element pushed behind those already there, and elements moved up from the end.
+-- The turns of loops over the pool: elements moved up from the end, those kept moved down, and what is still as it was.
 -- Assumes nothing.
 use mathlib.Core.Path.{_≡_, sym, ap, _∙_}
 use mathlib.Core.Bool.{Bool, true, false, cond}
@@ -7,36 +7,17 @@ use Prim.Native.Nat.{ℕ, _+_, _-_, _≤_, _<_}
 use native.Mathlib.Omega.{arith}
 use native.Mathlib.Numerals.{add-one}
 use lib.ListN.{length, take, drop, getD, set, length-drop, length-set}
-use lib.Seq.{take-take, take-suc, take-suc-set, drop-set-lt, drop-drop, getD-drop, getD-take, getD-set-same}
+use lib.Seq.{take-take, take-suc, drop-drop, getD-drop, getD-take, getD-set-same}
 use Rattle.laws.specs.Cases.{split}
 use Rattle.laws.specs.Table.{keep}
 use Rattle.laws.specs.Arrays.{next, untouched}
 
 module _ {A : Type 0} where
-  -- an element written behind those already there
-  pub pushed : (a l : List A) (w : ℕ) (x : A) → w < length a → take w a ≡ l → take (w + 1) (set a w x) ≡ l ++ x ∷ []
-  pushed a l w x h e = rw (add-one, take-suc-set a w x h, e)
-
-  -- what is still to be looked at, one further and with a store before it
-  pub further : (a b : List A) (w r : ℕ) (x : A) → w ≤ r → drop r a ≡ drop r b → drop (r + 1) (set a w x) ≡ drop (r + 1) b
-  further a b w r x h e =
-      drop-set-lt (r + 1) a w x (omega arith) ∙ sym (drop-drop 1 r a) ∙ ap (drop 1) e ∙ drop-drop 1 r b
-
-  pub further-read : (a b : List A) (r : ℕ) → drop r a ≡ drop r b → drop (r + 1) a ≡ drop (r + 1) b
-  further-read a b r e = sym (drop-drop 1 r a) ∙ ap (drop 1) e ∙ drop-drop 1 r b
-
   pub dropped-both : (r k : ℕ) (a b : List A) → drop r a ≡ drop r b → drop (r + k) a ≡ drop (r + k) b
   dropped-both r k a b e = sym (drop-drop k r a) ∙ ap (drop k) e ∙ drop-drop k r b
 
   pub dropped-past : (r k : ℕ) (a b : List A) → r ≤ k → drop r a ≡ drop r b → drop k a ≡ drop k b
   dropped-past r k a b h e = let z : r + (k - r) ≡ k = omega arith in rw z at (dropped-both r (k - r) a b e)
-
-  -- the element read is the one that stood there at first
-  pub read-first : (a b : List A) (r : ℕ) (d : A) → drop r a ≡ drop r b → getD a r d ≡ getD b r d
-  read-first a b r d e =
-      let z : r + 0 ≡ r = omega arith in
-      let f : getD a (r + 0) d ≡ getD b (r + 0) d = sym (getD-drop r a 0 d) ∙ ap (λ (l : List A). getD l 0 d) e ∙ getD-drop r b 0 d in
-      rw z at f
 
   -- one more of a part
   pub part-more : (b : List A) (from i : ℕ) (d : A) → from + i < length b → take (i + 1) (drop from b) ≡ take i (drop from b) ++ getD b (from + i) d ∷ []

@@ -9,10 +9,11 @@ use lib.Dec.{eqb}
 use lib.ListN.{length, take, drop, getD, length-set, length-append}
 use borrow.Author.Tests.{eq-eqb, ne-eqb}
 use Rattle.laws.specs.Table.{keep}
-use Rattle.discovery_rows.specs.Pool.{pushed, further, further-read, read-first, kept-more, kept-passed}
+use Rattle.discovery_rows.specs.Walks.{pushed, further, further-read, read-first}
+use Rattle.discovery_pages.specs.Pool.{kept-more, kept-passed}
 use borrow.Author.Needs.{needs}
-use Rattle.discovery_rows.proofs.pool.cut_down.Statement.{statement}
-use Rattle.discovery_rows.proofs.pool.cut_down.Tie as tie
+use Rattle.discovery_pages.proofs.pool.cut_down.Statement.{statement}
+use Rattle.discovery_pages.proofs.pool.cut_down.Tie as tie
 
 abbrev Inv-loop : tie.InvT-loop
 Inv-loop universes₀ to from n universe kept₀ i₀ universes kept i =

@@ -7,10 +7,10 @@ use native.Mathlib.Omega.{arith}
 use lib.ListN.{length, take, drop, getD, length-set}
 use lib.Seq.{take-set-le, drop-set-lt}
 use Rattle.laws.specs.Arrays.{spent}
-use Rattle.discovery_rows.specs.Pool.{take-less, moved-up}
+use Rattle.discovery_pages.specs.Pool.{take-less, moved-up}
 use borrow.Author.Needs.{needs}
-use Rattle.discovery_rows.proofs.pool.open_gap.Statement.{statement}
-use Rattle.discovery_rows.proofs.pool.open_gap.Tie as tie
+use Rattle.discovery_pages.proofs.pool.open_gap.Statement.{statement}
+use Rattle.discovery_pages.proofs.pool.open_gap.Tie as tie
 
 abbrev Inv-loop : tie.InvT-loop
 Inv-loop universes₀ used at n i₀ universes i =

@@ -6,10 +6,11 @@ use Prim.Native.Nat.{ℕ, _≤_, _-_, _+_}
 use native.Mathlib.Omega.{arith}
 use lib.ListN.{length, take, drop, getD, length-set}
 use lib.Seq.{take-add}
-use Rattle.discovery_rows.specs.Pool.{pushed, further, read-first, part-more}
+use Rattle.discovery_rows.specs.Walks.{pushed, further, read-first}
+use Rattle.discovery_pages.specs.Pool.{part-more}
 use borrow.Author.Needs.{needs}
-use Rattle.discovery_rows.proofs.pool.move_down.Statement.{statement}
-use Rattle.discovery_rows.proofs.pool.move_down.Tie as tie
+use Rattle.discovery_pages.proofs.pool.move_down.Statement.{statement}
+use Rattle.discovery_pages.proofs.pool.move_down.Tie as tie
 
 abbrev Inv-loop : tie.InvT-loop
 Inv-loop universes₀ to from n i₀ universes i =

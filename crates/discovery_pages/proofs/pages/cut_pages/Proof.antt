@@ -9,12 +9,13 @@ use lib.Dec.{eqb}
 use lib.ListN.{take, drop, getD, length-take}
 use lib.Seq.{set-getD, take-all}
 use Rattle.laws.specs.Table.{keep, length-keep}
 use Rattle.discovery_rows.specs.Store.{Leaf}
-use Rattle.discovery_rows.specs.Leaves.{cut-leaf}
-use Rattle.discovery_rows.specs.Rows.{leaves, leafAt, amount, owned, Pass, pass-start, pass-row, pass-few, pass-room, pass-put, pass-end, image-whole, image-less}
+use Rattle.discovery_pages.specs.Leaves.{cut-leaf}
+use Rattle.discovery_rows.specs.Rows.{leaves, leafAt, amount, owned}
+use Rattle.discovery_pages.specs.Passes.{Pass, pass-start, pass-row, pass-few, pass-room, pass-put, pass-end, image-whole, image-less}
 use borrow.Author.Needs.{needs}
-use Rattle.discovery_rows.proofs.pages.cut_pages.Statement.{statement}
-use Rattle.discovery_rows.proofs.pages.cut_pages.Tie as tie
+use Rattle.discovery_pages.proofs.pages.cut_pages.Statement.{statement}
+use Rattle.discovery_pages.proofs.pages.cut_pages.Tie as tie
 
 abbrev Inv-loop : tie.InvT-loop
 Inv-loop pages₀ universes₀ count cid universe to₀ from₀ i₀ pages universes to from i = Pass count pages₀ universes₀ (map (cut-leaf cid universe) (leaves (take i pages₀) universes₀)) pages universes i to from i

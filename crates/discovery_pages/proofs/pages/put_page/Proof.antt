@@ -3,10 +3,10 @@
 use mathlib.Core.Path.{sym, _∙_}
 use native.Mathlib.Omega.{arith}
 use lib.ListN.{length}
-use Rattle.discovery_rows.specs.Steps.{pool-room, page-appended}
+use Rattle.discovery_pages.specs.Steps.{pool-room, page-appended}
 use borrow.Author.Needs.{needs}
-use Rattle.discovery_rows.proofs.pages.put_page.Statement.{statement}
-use Rattle.discovery_rows.proofs.pages.put_page.Tie as tie
+use Rattle.discovery_pages.proofs.pages.put_page.Statement.{statement}
+use Rattle.discovery_pages.proofs.pages.put_page.Tie as tie
 
 goes-last-requires : tie.Need-goes-last-requires
 goes-last-requires c κs = search needs

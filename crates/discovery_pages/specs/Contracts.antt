@@ -5,8 +5,9 @@ use Prim.Native.Nat.{ℕ}
 use denote.Ref.{now}
 use lib.ListN.{take}
 use Rattle.laws.specs.Lent.{Part}
 use Rattle.discovery_rows.specs.Store.{Leaf}
-use Rattle.discovery_rows.specs.Rows.{leaves, Packs}
+use Rattle.discovery_rows.specs.Rows.{leaves}
+use Rattle.discovery_pages.specs.Passes.{Packs}
 
 -- the first count pages as the call finds them
 abbrev pub leaves-before : ℕ → Part (List (List ℕ)) → Part (List ℕ) → List Leaf

@@ -1,25 +1,29 @@
 -- What the code's steps on rows and pool make of heads and leaves, with all that is presupposed kept.
 -- Assumes nothing.
 use mathlib.Core.Path.{_≡_, refl, sym, ap, subst, _∙_}
-use mathlib.Core.Bool.{Bool, true, false, not}
+use mathlib.Core.Bool.{Bool, true, false, not, _&&_}
 use mathlib.Core.List.{List, [], _∷_, _++_}
 use Prim.Native.Nat.{ℕ, zero, suc, _+_, _-_, _≤_, _<_}
 use native.Mathlib.Omega.{arith}
-use lib.Dec.{eqb}
+use lib.Dec.{leb}
 use lib.ListN.{length, take, drop, getD, set, length-take, length-set}
 use lib.Seq.{take-take, take-at, drop-at, drop-drop}
 use Rattle.laws.specs.Cases.{split, clash}
 use borrow.Author.Tests.{leb-true}
-use Rattle.laws.specs.Place.{prefix, prefix-le, prefix-sooner, insertAt}
+use Rattle.laws.specs.Place.{prefix, insertAt}
 use Rattle.laws.specs.Arrays.{spent, laid}
 use Rattle.rules.specs.declared.Cid.{Cid}
-use Rattle.rules.specs.Cid.{same}
-use Rattle.discovery.specs.Discovery.{Rising, most-universes, capacity}
+use Rattle.discovery.specs.Discovery.{Rising, most-universes, capacity, pool-length}
 use Rattle.discovery_rows.specs.Store.{Leaf, pages-at}
-use Rattle.discovery_rows.specs.Leaves.{behind, place-last}
-use Rattle.discovery_rows.specs.Pool.{dropped-past}
-use Rattle.discovery.specs.Discovery.{pool-length}
-use Rattle.discovery_rows.specs.Rows.{cidAt, owned, leafAt, leafWith, leaves, total, amount, Few, Packing, Packs, larger, no-larger, leaves-agree, leaves-append, leaves-more, length-leaves, taken-dropped, total-append, total-few}
+use Rattle.discovery_rows.specs.Rows.{owned, leafAt, leaves, total, amount, Few, larger, total-append}
+use Rattle.discovery_rows.specs.Walks.{place-within}
+use Rattle.discovery_pages.specs.Leaves.{behind, place-last}
+use Rattle.discovery_pages.specs.Pool.{dropped-past}
+use Rattle.discovery_pages.specs.Passes.{leafWith, Packing, Packs, leaves-agree, leaves-append, leaves-more, length-leaves, taken-dropped, total-few}
+
+-- a partial page row of the CID with no larger number
+abbrev pub no-larger : Cid → ℕ → List ℕ → Bool
+no-larger c n r = owned 0 c r && leb (getD r 3 0) n
 
 -- ── one page more for a partial source ──
 leaves-prefix : (c : Cid) (n : ℕ) (rs : List (List ℕ)) (us : List ℕ) → prefix (behind 0 c n) (leaves rs us) ≡ prefix (λ r. not (larger c n r)) rs
@@ -66,18 +70,6 @@ pool-small count P U n g h k =
 
 pub pool-room : (count : ℕ) (P : List (List ℕ)) (U : List ℕ) (n : ℕ) → Packing count P U → count < capacity → n ≤ most-universes → total (take count P) + n ≤ length U
 pool-room count P U n g h k = let b : pool-length ≤ length U = g .pool in omega (arith, pool-small count P U n g h k)
-
-pub place-within : (p : List ℕ → Bool) (count : ℕ) (P : List (List ℕ)) → prefix p (take count P) ≤ count
-place-within p count P = omega (arith, prefix-le p (take count P), length-take count P)
-
--- ── a walk that begins further on ──
--- a row that has not the CID has not the owner
-pub place-sooner : (m : ℕ) (c : Cid) (rs : List (List ℕ)) → prefix (λ r. not (same (cidAt r) c)) rs ≤ prefix (λ r. not (owned m c r)) rs
-place-sooner m c rs =
-    prefix-sooner (λ r. not (same (cidAt r) c)) (λ r. not (owned m c r)) rs
-    (λ r e. split (same (cidAt r) c)
-    (λ f. let z : false ≡ true = rw f at e in clash z refl)
-    (λ f. split (eqb (getD r 0 0) m) (λ g. rw (g, f)) (λ g. rw g)))
 
 -- ── one page more, in its place ──
 module _ (count used : ℕ) (P P′ : List (List ℕ)) (U U₁ U₂ : List ℕ) (c : Cid) (n : ℕ) (l : List ℕ) (at begin : ℕ)

@@ -7,10 +7,10 @@ use native.Mathlib.Omega.{arith}
 use lib.ListN.{length, take, drop, getD, length-set}
 use lib.Seq.{take-all, take-suc}
 use native.Mathlib.Numerals.{add-one}
-use Rattle.discovery_rows.specs.Pool.{pushed, further}
+use Rattle.discovery_rows.specs.Walks.{pushed, further}
 use borrow.Author.Needs.{needs}
-use Rattle.discovery_rows.proofs.pool.write_at.Statement.{statement}
-use Rattle.discovery_rows.proofs.pool.write_at.Tie as tie
+use Rattle.discovery_pages.proofs.pool.write_at.Statement.{statement}
+use Rattle.discovery_pages.proofs.pool.write_at.Tie as tie
 
 abbrev Inv-loop : tie.InvT-loop
 Inv-loop universes₀ at list i₀ universes i =
