@@ -1,15 +1,5 @@
-pub mod Ascii
-pub mod Fields
-pub mod FieldLaws
-pub mod Text
-pub mod TextLaws
-pub mod Lines
-pub mod LineLaws
-pub mod Answers
 pub mod Dump
 pub mod DumpLaws
-pub mod Script
-pub mod ScriptLaws
 pub mod Session
 pub mod SessionLaws
 pub mod SpokenLaws

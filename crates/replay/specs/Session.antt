@@ -22,18 +22,18 @@ use Rattle.receiver.specs.declared.Receiver.{Receiver}
 use Rattle.discovery.specs.Discovery.{pool-length}
 use Rattle.receiver.specs.View.{Memory, stateOf, spaceIn, Kept}
 use Rattle.packets.specs.View.{announcementOf}
-use Rattle.replay.specs.declared.parse.Command.{Command}
-use Rattle.replay.specs.declared.parse.Command.the-variants as says
-use Rattle.replay.specs.declared.parse.Setting.{Setting}
-use Rattle.replay.specs.declared.parse.Setting.the-variants as sets
+use Rattle.script.specs.declared.parse.Command.{Command}
+use Rattle.script.specs.declared.parse.Command.the-variants as says
+use Rattle.script.specs.declared.parse.Setting.{Setting}
+use Rattle.script.specs.declared.parse.Setting.the-variants as sets
 use Rattle.replay.specs.declared.calls.Session.{Session}
-use Rattle.replay.specs.declared.lines.Input.{Input}
-use Rattle.replay.specs.Ascii.{ascii}
-use Rattle.replay.specs.Lines.{Unread, silent}
-use Rattle.replay.specs.Text.{Ready, Tells}
-use Rattle.replay.specs.Answers.{answerLine, flagLine, stepLine}
+use Rattle.script.specs.declared.lines.Input.{Input}
+use Rattle.script.specs.Ascii.{ascii}
+use Rattle.script.specs.Lines.{Unread, silent}
+use Rattle.script.specs.Text.{Ready, Tells}
+use Rattle.script.specs.Answers.{answerLine, flagLine, stepLine}
 use Rattle.replay.specs.Dump.{dumpText}
-use Rattle.replay.specs.Script.{lineOf}
+use Rattle.script.specs.Script.{lineOf}
 
 -- ── what a command does ──
 pub record Outcome : Type 0 where

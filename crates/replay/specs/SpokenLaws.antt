@@ -17,35 +17,35 @@ use Rattle.model.specs.Calls.{listen-call}
 use Rattle.model.specs.Answer.{listenNumber, listenValues}
 use Rattle.receiver.specs.View.{Memory, spaceIn}
 use Rattle.packets.specs.View.{announcementOf}
-use Rattle.replay.specs.declared.fields.Number.{Number}
-use Rattle.replay.specs.declared.fields.Number.the-variants as number
-use Rattle.replay.specs.declared.fields.Small.{Small}
-use Rattle.replay.specs.declared.fields.Small.the-variants as small
-use Rattle.replay.specs.declared.fields.Octet.{Octet}
-use Rattle.replay.specs.declared.fields.Octet.the-variants as octet
-use Rattle.replay.specs.declared.fields.Flag.{Flag}
-use Rattle.replay.specs.declared.fields.Flag.the-variants as flag
-use Rattle.replay.specs.declared.parse.Stamp.{Stamp}
-use Rattle.replay.specs.declared.parse.Stamped.{Stamped}
-use Rattle.replay.specs.declared.parse.Stamped.the-variants as stamped
-use Rattle.replay.specs.declared.parse.DataNumbers.{DataNumbers}
-use Rattle.replay.specs.declared.parse.Numbered.{Numbered}
-use Rattle.replay.specs.declared.parse.Numbered.the-variants as numbered
-use Rattle.replay.specs.declared.parse.Command.{Command}
-use Rattle.replay.specs.declared.parse.Command.the-variants as says
-use Rattle.replay.specs.declared.parse.SettingWord.{SettingWord}
-use Rattle.replay.specs.declared.parse.SettingWord.the-variants as setting
-use Rattle.replay.specs.declared.parse.UniverseWord.{UniverseWord}
-use Rattle.replay.specs.declared.parse.UniverseWord.the-variants as universe
-use Rattle.replay.specs.declared.parse.ReadingWord.{ReadingWord}
-use Rattle.replay.specs.declared.parse.ReadingWord.the-variants as reading
-use Rattle.replay.specs.declared.parse.Word.{Word}
-use Rattle.replay.specs.declared.parse.Word.the-variants as word
-use Rattle.replay.specs.Ascii.{ascii}
-use Rattle.replay.specs.Fields.{eql, ending, numberOf, smallOf, octetOf, flagOf, byteStringOf, listOf}
-use Rattle.replay.specs.Script
-use Rattle.replay.specs.Script.{Reading, Reads, plain, firstOf, restOf, pastFive, loneOf, wordOf, flagged, aimed, timed, mergeOf, limit-number, limitOf, stampOf, numbersOf, data-values, data-numbers, data-stamp, dataOf, sync-sequence, sync-address, sync-stamp, syncOf, page-universes, page-name, page-last, page-number, page-stamp, discoveryOf, listen-list, fieldsOf, lineOf}
-use Rattle.replay.specs.Lines.{silent}
+use Rattle.script.specs.declared.fields.Number.{Number}
+use Rattle.script.specs.declared.fields.Number.the-variants as number
+use Rattle.script.specs.declared.fields.Small.{Small}
+use Rattle.script.specs.declared.fields.Small.the-variants as small
+use Rattle.script.specs.declared.fields.Octet.{Octet}
+use Rattle.script.specs.declared.fields.Octet.the-variants as octet
+use Rattle.script.specs.declared.fields.Flag.{Flag}
+use Rattle.script.specs.declared.fields.Flag.the-variants as flag
+use Rattle.script.specs.declared.parse.Stamp.{Stamp}
+use Rattle.script.specs.declared.parse.Stamped.{Stamped}
+use Rattle.script.specs.declared.parse.Stamped.the-variants as stamped
+use Rattle.script.specs.declared.parse.DataNumbers.{DataNumbers}
+use Rattle.script.specs.declared.parse.Numbered.{Numbered}
+use Rattle.script.specs.declared.parse.Numbered.the-variants as numbered
+use Rattle.script.specs.declared.parse.Command.{Command}
+use Rattle.script.specs.declared.parse.Command.the-variants as says
+use Rattle.script.specs.declared.parse.SettingWord.{SettingWord}
+use Rattle.script.specs.declared.parse.SettingWord.the-variants as setting
+use Rattle.script.specs.declared.parse.UniverseWord.{UniverseWord}
+use Rattle.script.specs.declared.parse.UniverseWord.the-variants as universe
+use Rattle.script.specs.declared.parse.ReadingWord.{ReadingWord}
+use Rattle.script.specs.declared.parse.ReadingWord.the-variants as reading
+use Rattle.script.specs.declared.parse.Word.{Word}
+use Rattle.script.specs.declared.parse.Word.the-variants as word
+use Rattle.script.specs.Ascii.{ascii}
+use Rattle.script.specs.Fields.{eql, ending, numberOf, smallOf, octetOf, flagOf, byteStringOf, listOf}
+use Rattle.script.specs.Script
+use Rattle.script.specs.Script.{Reading, Reads, plain, firstOf, restOf, pastFive, loneOf, wordOf, flagged, aimed, timed, mergeOf, limit-number, limitOf, stampOf, numbersOf, data-values, data-numbers, data-stamp, dataOf, sync-sequence, sync-address, sync-stamp, syncOf, page-universes, page-name, page-last, page-number, page-stamp, discoveryOf, listen-list, fieldsOf, lineOf}
+use Rattle.script.specs.Lines.{silent}
 use Rattle.replay.specs.Session.{Outcome, outcome, called, stepped, refused, carried, spoken}
 
 -- the counts of a command are the lengths of its bytes and numbers

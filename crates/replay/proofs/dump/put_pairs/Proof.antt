@@ -7,8 +7,8 @@ use native.Mathlib.Omega.{arith}
 use lib.ListN.{length, take, getD}
 use Rattle.pairs.specs.declared.Pair.{Pair}
 use Rattle.pair_rows.specs.View.{pairOf, pairsOf}
-use Rattle.replay.specs.Text.{Tells}
-use Rattle.replay.specs.TextLaws.{tells-none, tells-as}
+use Rattle.script.specs.Text.{Tells}
+use Rattle.script.specs.TextLaws.{tells-none, tells-as}
 use Rattle.replay.specs.Dump.{lines, pairLine}
 use Rattle.replay.specs.DumpLaws.{tells-row}
 use borrow.Author.Needs.{needs}

@@ -7,8 +7,8 @@ use native.Mathlib.Omega.{arith}
 use lib.ListN.{length, take, getD}
 use lib.Seq.{take-all}
 use Rattle.waiting_store.specs.Entries.{waitingOf, nothing}
-use Rattle.replay.specs.Text.{Tells}
-use Rattle.replay.specs.TextLaws.{tells-none, tells-as}
+use Rattle.script.specs.Text.{Tells}
+use Rattle.script.specs.TextLaws.{tells-none, tells-as}
 use Rattle.replay.specs.Dump.{lines, waitingLine}
 use Rattle.replay.specs.DumpLaws.{tells-line, length-waiting, entry-same}
 use borrow.Author.Needs.{needs}

@@ -3,7 +3,7 @@
 use mathlib.Core.Path.{sym, ap}
 use Rattle.settings.specs.declared.Settings.{Settings}
 use Rattle.receiver.specs.View.{stateOf}
-use Rattle.replay.specs.declared.parse.Setting.{Setting}
+use Rattle.script.specs.declared.parse.Setting.{Setting}
 use Rattle.replay.specs.Session.{set-to, adjusted}
 use Rattle.replay.specs.SessionLaws.{carries-as}
 use borrow.Author.Needs.{needs}

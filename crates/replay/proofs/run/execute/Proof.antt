@@ -2,7 +2,7 @@
 -- Assumes nothing.
 use mathlib.Core.Path.{sym, ap}
 use Rattle.receiver.specs.View.{Memory, memory, stateOf}
-use Rattle.replay.specs.declared.parse.Command.{Command}
+use Rattle.script.specs.declared.parse.Command.{Command}
 use Rattle.replay.specs.Session.{Outcome, carried}
 use Rattle.replay.specs.SessionLaws.{carries-as}
 use borrow.Author.Needs.{needs}

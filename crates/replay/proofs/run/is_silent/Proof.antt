@@ -1,7 +1,7 @@
 -- No bytes, or the mark in front.
 -- Assumes nothing.
 use mathlib.Core.Path.{sym}
-use Rattle.replay.specs.LineLaws.{silent-none, silent-mark}
+use Rattle.script.specs.LineLaws.{silent-none, silent-mark}
 use borrow.Author.Needs.{needs}
 use Rattle.replay.proofs.run.is_silent.Statement.{statement}
 use Rattle.replay.proofs.run.is_silent.Tie as tie
