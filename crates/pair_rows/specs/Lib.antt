@@ -2,4 +2,3 @@ pub mod View
 pub mod Rows
 pub mod Stores
 pub mod Notes
-pub mod Sweep

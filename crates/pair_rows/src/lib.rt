@@ -1,7 +1,6 @@
-// Rows of pair tables in lent memory: what a row stands for, where a key stands, and the passes of a sweep.
+// Rows of pair tables in lent memory: what a row stands for, where a key stands, rows put in, taken out and moved.
 mod rows;
 mod search;
-mod sweep;
 
 ghost use mathlib.Core.Path.{_≡_};
 ghost use Rattle.pairs.specs.Table.{capacity};
@@ -10,9 +9,11 @@ ghost use Rattle.pairs.specs.Table.{capacity};
 pub use crate::rows::cid_of;
 pub use crate::rows::pair_of;
 
-// What the calls of `pair_tables` are made of; no other crate uses these.
+// What the passes of `pair_sweeps` and the calls of `pair_tables` are made of; no other crate uses these.
 pub use crate::rows::insert_pair;
 pub use crate::rows::insert_source;
+pub use crate::rows::move_pair;
+pub use crate::rows::move_source;
 pub use crate::rows::pair_row;
 pub use crate::rows::remove_pair;
 pub use crate::rows::remove_source;
@@ -23,11 +24,8 @@ pub use crate::search::has_pair;
 pub use crate::search::least_reading;
 pub use crate::search::place_of;
 pub use crate::search::same_key;
+pub use crate::search::skip_before;
 pub use crate::search::source_place;
-pub use crate::sweep::all_paired;
-pub use crate::sweep::keep_live;
-pub use crate::sweep::keep_sources;
-pub use crate::sweep::note;
 
 // How many pairs a table holds, and how many CIDs it lists.
 pub const PAIRS: usize = 1024;

@@ -29,7 +29,7 @@ use Rattle.pair_rows.specs.Stores.{placed-at}
 use Rattle.laws.specs.Place.{place}
 use Rattle.pair_tables.specs.View.{tableOf, renewed, quiet, reading-noted, Kept, Follows, Unmoved, answered, removal, Renews, pair-stop, PairsKept, Stored, Admitted, RenewsPair}
 use Rattle.pair_rows.specs.Rows.{older-lower, lower-fresh}
-use Rattle.pair_rows.specs.Sweep.{fresh, note-none, note-some}
+use Rattle.pair_sweeps.specs.Sweep.{fresh, note-none, note-some}
 use Rattle.pair_rows.specs.Notes.{older-removed, older-stored, lonely-without, lonely-swept, lonely-recorded}
 use Rattle.pair_tables.specs.Admit.{swept-idle, stop-listed, stop-limit, stop-full, stop-unlisted, listed-some, listed-none, recorded-listed, never-accepted}
 

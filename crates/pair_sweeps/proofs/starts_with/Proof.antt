@@ -6,10 +6,10 @@ use mathlib.Core.List.{[]}
 use Rattle.laws.specs.Arrays.{next, spent}
 use Rattle.rules.specs.Cid.{same}
 use Rattle.pairs.specs.declared.Pair.{Pair}
 use Rattle.pair_rows.specs.View.{starts}
 use borrow.Author.Needs.{needs}
-use Rattle.pair_rows.proofs.sweep.starts_with.Statement.{statement}
-use Rattle.pair_rows.proofs.sweep.starts_with.Tie as tie
+use Rattle.pair_sweeps.proofs.starts_with.Statement.{statement}
+use Rattle.pair_sweeps.proofs.starts_with.Tie as tie
 
 mul-row : tie.Need-mul-row
 mul-row c = search needs

@@ -9,11 +9,11 @@ use Rattle.laws.specs.Arrays.{spent}
 use Rattle.laws.specs.Place.{prefix}
 use Rattle.rules.specs.declared.Cid.{Cid}
 use Rattle.pairs.specs.Table.{lowest}
 use Rattle.pair_rows.specs.View.{cidOf, pairOf, row-before, noteOf}
-use Rattle.pair_rows.specs.Sweep.{NoteWalk, note-starts, note-skip, note-on, note-done}
+use Rattle.pair_sweeps.specs.Sweep.{NoteWalk, note-starts, note-skip, note-on, note-done}
 use borrow.Author.Needs.{needs}
-use Rattle.pair_rows.proofs.sweep.last_note.Statement.{statement}
-use Rattle.pair_rows.proofs.sweep.last_note.Tie as tie
+use Rattle.pair_sweeps.proofs.last_note.Statement.{statement}
+use Rattle.pair_sweeps.proofs.last_note.Tie as tie
 
 abbrev Inv-loop : tie.InvT-loop
 Inv-loop pairs n sources m reading last₀ i₀ j₀ last i j = (i ≤ m) × (j ≤ n) × NoteWalk reading (take n pairs) m sources last i j

@@ -9,11 +9,11 @@ use Rattle.laws.specs.Arrays.{spent}
 use Rattle.laws.specs.Place.{prefix}
 use Rattle.rules.specs.declared.Cid.{Cid}
 use Rattle.pairs.specs.Table.{capacity}
 use Rattle.pair_rows.specs.View.{cidOf, row-before, starts}
-use Rattle.pair_rows.specs.Sweep.{Walk, owner, walk-starts, walk-skip, walk-has, walk-drop, walk-keep, walk-done}
+use Rattle.pair_sweeps.specs.Sweep.{Walk, owner, walk-starts, walk-skip, walk-has, walk-drop, walk-keep, walk-done}
 use borrow.Author.Needs.{needs}
-use Rattle.pair_rows.proofs.sweep.keep_sources.Statement.{statement}
-use Rattle.pair_rows.proofs.sweep.keep_sources.Tie as tie
+use Rattle.pair_sweeps.proofs.keep_sources.Statement.{statement}
+use Rattle.pair_sweeps.proofs.keep_sources.Tie as tie
 
 abbrev Inv-loop : tie.InvT-loop
 Inv-loop pairs n sources₀ m kept₀ i₀ j₀ sources kept i j = (kept ≤ i) × (i ≤ m) × (j ≤ n) × (length sources ≡ capacity) × Walk (take n pairs) (take m sources₀) m sources kept i j

@@ -11,11 +11,11 @@ use Rattle.laws.specs.Arrays.{next, spent}
 use Rattle.rules.specs.Cid.{before}
 use Rattle.pairs.specs.declared.Pair.{Pair}
 use Rattle.pairs.specs.Table.{keyOf, key-before, lowest}
 use Rattle.pair_rows.specs.View.{Rows, pairOf, lapsed, noteOf}
-use Rattle.pair_rows.specs.Sweep.{pairs-from, lowest-hit, lowest-miss, lowest-past}
+use Rattle.pair_sweeps.specs.Sweep.{pairs-from, lowest-hit, lowest-miss, lowest-past}
 use borrow.Author.Needs.{needs}
-use Rattle.pair_rows.proofs.sweep.lowest_expired.Statement.{statement}
-use Rattle.pair_rows.proofs.sweep.lowest_expired.Tie as tie
+use Rattle.pair_sweeps.proofs.lowest_expired.Statement.{statement}
+use Rattle.pair_sweeps.proofs.lowest_expired.Tie as tie
 
 abbrev Inv-loop : tie.InvT-loop
 Inv-loop pairs n j cid reading i₀ i = (i ≤ n) × (lowest reading (map pairOf (drop i (take n pairs))) cid ≡ lowest reading (map pairOf (drop j (take n pairs))) cid)

@@ -3,8 +3,8 @@
 use mathlib.Core.Path.{ap}
 use mathlib.Core.Bool.{not}
 use borrow.Author.Needs.{needs}
-use Rattle.pair_rows.proofs.sweep.is_live.Statement.{statement}
-use Rattle.pair_rows.proofs.sweep.is_live.Tie as tie
+use Rattle.pair_sweeps.proofs.is_live.Statement.{statement}
+use Rattle.pair_sweeps.proofs.is_live.Tie as tie
 
 has-aged-requires : tie.Need-has-aged-requires
 has-aged-requires c κs = search needs

@@ -8,11 +8,11 @@ use native.Mathlib.Omega.{arith}
 use lib.ListN.{length, take, drop, getD}
 use Rattle.laws.specs.Place.{prefix}
 use Rattle.rules.specs.declared.Cid.{Cid}
 use Rattle.pair_rows.specs.View.{cidOf, row-before, starts}
-use Rattle.pair_rows.specs.Sweep.{Walk, owner, walk-starts, walk-skip, walk-has, walk-on, walk-paired, walk-lonely}
+use Rattle.pair_sweeps.specs.Sweep.{Walk, owner, walk-starts, walk-skip, walk-has, walk-on, walk-paired, walk-lonely}
 use borrow.Author.Needs.{needs}
-use Rattle.pair_rows.proofs.sweep.all_paired.Statement.{statement}
-use Rattle.pair_rows.proofs.sweep.all_paired.Tie as tie
+use Rattle.pair_sweeps.proofs.all_paired.Statement.{statement}
+use Rattle.pair_sweeps.proofs.all_paired.Tie as tie
 
 abbrev Inv-loop : tie.InvT-loop
 Inv-loop pairs n sources m i₀ j₀ i j = (i ≤ m) × (j ≤ n) × Walk (take n pairs) (take m sources) m sources i i j

@@ -1,10 +1,10 @@
 -- The second, unless it is none.
 -- Assumes nothing.
 use mathlib.Core.Path.{sym, ap}
 use Rattle.pair_rows.specs.View.{later-note}
 use borrow.Author.Needs.{needs}
-use Rattle.pair_rows.proofs.sweep.later_note.Statement.{statement}
-use Rattle.pair_rows.proofs.sweep.later_note.Tie as tie
+use Rattle.pair_sweeps.proofs.later_note.Statement.{statement}
+use Rattle.pair_sweeps.proofs.later_note.Tie as tie
 
 enum-known-b : tie.Need-enum-known-b
 enum-known-b c = search needs

@@ -9,11 +9,11 @@ use native.Mathlib.Omega.{arith}
 use lib.ListN.{getD}
 use Rattle.rules.specs.declared.Cid.{Cid}
 use Rattle.pairs.specs.Table.{lowest, noted}
 use Rattle.pair_rows.specs.View.{cidOf, pairsOf, sourcesOf, noteOf}
-use Rattle.pair_rows.specs.Sweep.{noted-first-none, noted-first-some, note-none, note-some}
+use Rattle.pair_sweeps.specs.Sweep.{noted-first-none, noted-first-some, note-none, note-some}
 use borrow.Author.Needs.{needs}
-use Rattle.pair_rows.proofs.sweep.note.Statement.{statement}
-use Rattle.pair_rows.proofs.sweep.note.Tie as tie
+use Rattle.pair_sweeps.proofs.note.Statement.{statement}
+use Rattle.pair_sweeps.proofs.note.Tie as tie
 
 module _ (c : tie.After-lowest-expired) where
   abbrev start : tie.Start

@@ -4,8 +4,8 @@ use mathlib.Core.Path.{_≡_, sym, _∙_}
 use mathlib.Core.Bool.{true, false}
 use Rattle.rules.specs.Cid.{same}
 use borrow.Author.Needs.{needs}
-use Rattle.pair_rows.proofs.sweep.is_lapsed.Statement.{statement}
-use Rattle.pair_rows.proofs.sweep.is_lapsed.Tie as tie
+use Rattle.pair_sweeps.proofs.is_lapsed.Statement.{statement}
+use Rattle.pair_sweeps.proofs.is_lapsed.Tie as tie
 
 is-same-requires : tie.Need-is-same-requires
 is-same-requires c κs = search needs

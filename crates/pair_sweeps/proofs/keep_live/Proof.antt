@@ -9,10 +9,10 @@ use Rattle.laws.specs.Table.{keep}
 use Rattle.laws.specs.Arrays.{spent, compact-keep, compact-drop}
 use Rattle.pairs.specs.declared.Pair.{Pair}
 use Rattle.pairs.specs.Table.{live, capacity}
-use Rattle.pair_rows.specs.Sweep.{live-row, live-done}
+use Rattle.pair_sweeps.specs.Sweep.{live-row, live-done}
 use borrow.Author.Needs.{needs}
-use Rattle.pair_rows.proofs.sweep.keep_live.Statement.{statement}
-use Rattle.pair_rows.proofs.sweep.keep_live.Tie as tie
+use Rattle.pair_sweeps.proofs.keep_live.Statement.{statement}
+use Rattle.pair_sweeps.proofs.keep_live.Tie as tie
 
 abbrev Inv-loop : tie.InvT-loop
 Inv-loop pairs₀ n reading kept₀ i₀ pairs kept i = (kept ≤ i) × (i ≤ n) × (length pairs ≡ capacity) × (take kept pairs ++ keep (live-row reading) (drop i (take n pairs)) ≡ keep (live-row reading) (take n pairs₀))

@@ -1,4 +1,5 @@
-// The parts of a sweep over the lent rows.
+// The passes of a sweep over the lent rows of a pair table: what stays, what is noted, which CIDs have a pair.
+// For `pair_tables`.
 ghost use mathlib.Core.Path.{_≡_};
 ghost use mathlib.Core.Bool.{not};
 ghost use mathlib.Core.List.{map};
@@ -6,14 +7,14 @@ ghost use Prim.Native.Nat.{_≤_};
 ghost use lib.ListN.{length, take, drop};
 ghost use Rattle.laws.specs.Table.{keep, Ascending};
 ghost use Rattle.pairs.specs.Table.{capacity, keyOf, key-before, has, live, lowest, last-noted, noted};
 ghost use Rattle.pair_rows.specs.View.{pairOf, pairsOf, sourcesOf, lonely, starts, lapsed, noteOf, later-note, Walkable};
-use crate::PairRows;
-use crate::SourceRows;
-use crate::rows::cid_of;
-use crate::rows::move_pair;
-use crate::rows::move_source;
-use crate::rows::pair_of;
-use crate::search::skip_before;
+use pair_rows::PairRows;
+use pair_rows::SourceRows;
+use pair_rows::cid_of;
+use pair_rows::move_pair;
+use pair_rows::move_source;
+use pair_rows::pair_of;
+use pair_rows::skip_before;
 use pairs::Pair;
 use pairs::SweepAnswer;
 use rules::Cid;
