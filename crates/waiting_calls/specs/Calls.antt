@@ -36,7 +36,7 @@ use Rattle.waiting.specs.Laws.{ordered-stored, ordered-cleared, ordered-swept, 
 use Rattle.waiting_store.specs.Entries.{headOf, countOf, entries, nothing, waitingOf, Room, Kept, Lent, lent-none, lent-then, lent-room, kept-ordered, length-waiting, prefix-entries, any-entries, read-entry}
 use Rattle.waiting_store.specs.Posts.{Held, below, Sought}
 use Rattle.waiting_store.specs.Passes.{head-at}
-use Rattle.waiting_calls.specs.Joins.{Joined}
+use Rattle.waiting_joins.specs.Joins.{Joined}
 
 -- what every call yields: the waiting data ds, ready for the next call, in memory that is else unchanged
 pub record Yields (rows : List (List ℕ)) (store : List ℕ) (rows′ : List (List ℕ)) (store′ : List ℕ) (n : ℕ) (ds : List Dmx) : Type 0 where

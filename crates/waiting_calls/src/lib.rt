@@ -1,18 +1,14 @@
 // Document 01, 'Waiting data': the calls over data that waits for the synchronisation of its address.
 ghost use mathlib.Core.Path.{_≡_};
 ghost use mathlib.Core.List.{List};
-ghost use Prim.Native.Nat.{ℕ, _≤_, _<_};
-ghost use lib.ListN.{length, getD, set};
-ghost use Rattle.merge.specs.Merge.{htp-merge, preferred, most-values};
+ghost use Prim.Native.Nat.{ℕ, _≤_};
+ghost use lib.ListN.{length, getD};
 ghost use Rattle.merge.specs.Views.{dmx};
-ghost use Rattle.waiting.specs.Waiting.{capacity, merged, cleared};
-ghost use Rattle.waiting_store.specs.Entries.{nothing, waitingOf, Room, Kept};
-ghost use Rattle.waiting_store.specs.Contracts.{entries-before, waiting-before, Become};
-ghost use Rattle.waiting_calls.specs.Joins.{JoinedIn};
+ghost use Rattle.waiting.specs.Waiting.{capacity, cleared};
+ghost use Rattle.waiting_store.specs.Entries.{nothing, waitingOf, Kept};
+ghost use Rattle.waiting_store.specs.Contracts.{waiting-before};
 ghost use Rattle.waiting_calls.specs.Calls.{Empty, YieldsIn, StoreCalled, ReleaseCalled, SweptCall};
-use merge::Choice;
 use merge::DmxData;
-use merge::HtpAnswer;
 use merge::VALUES;
 use settings::MergeChoice;
 use waiting::RELEASE_LENGTH;
@@ -20,6 +16,7 @@ use waiting::ReleaseAnswer;
 use waiting::StoreAnswer;
 use waiting::StoreCall;
 use waiting::WAITING;
+use waiting_joins::join_entry;
 use waiting_store::EntryRows;
 use waiting_store::Found;
 use waiting_store::Retain;
@@ -30,80 +27,7 @@ use waiting_store::find_universe;
 use waiting_store::head_of;
 use waiting_store::insert_at;
 use waiting_store::remove_at;
-use waiting_store::write_entry;
 use waiting_store::write_release;
-
-// The packet joins the entry at place i by priority: that entry stays, or the packet takes its place.
-fn choose_entry(rows: &mut EntryRows, store: &mut [u8], i: usize, packet: DmxData, values: &[u8])
-    requires { ⌜ Room (now rows) (now store) × (i < capacity) × (length (now values) ≤ most-values) ⌝ }
-    ensures { λ r. let es = entries-before rows store in
-        ⌜ Become rows store (set es i (preferred (getD es i nothing) (dmx packet (now (values .entry))))) ⌝ }
-{
-    let row = rows[i];
-    let e = head_of(row);
-    let a = i * VALUES;
-    let b = a + count_of(row);
-    let c = merge::discard_lowest_priority_then_previous(e, &store[a..b], packet, values);
-    // The winner's values, where they lie: the older's stay there, and only the newer's are written to the store.
-    let n = merge::chosen_values(c, &store[a..b], values).len();
-    match c {
-        Choice::Older => {}
-        Choice::Newer => write_entry(rows, store, i, packet, &values[..n]),
-        Choice::TooLong(_) => {}
-    }
-}
-
-// The packet joins the entry at place i by highest value; a refused merge changes nothing and answers false.
-fn blend_entry(
-    rows: &mut EntryRows,
-    store: &mut [u8],
-    i: usize,
-    packet: DmxData,
-    values: &[u8],
-) -> bool
-    requires { ⌜ Room (now rows) (now store) × (i < capacity) × (length (now values) ≤ most-values) ⌝ }
-    ensures { λ r. let es = entries-before rows store in
-        ⌜ JoinedIn rows store i (htp-merge (getD es i nothing) (dmx packet (now (values .entry)))) r ⌝ }
-{
-    let row = rows[i];
-    let e = head_of(row);
-    let a = i * VALUES;
-    let b = a + count_of(row);
-    let mut block = [0u8; VALUES];
-    match merge::htp_dmx_merge(e, &store[a..b], packet, values, &mut block) {
-        HtpAnswer::Merged(d, m) => {
-            write_entry(rows, store, i, d, &block[..m]);
-            true
-        }
-        HtpAnswer::TooLong(_) => false,
-        HtpAnswer::Refused => false,
-        HtpAnswer::OutputShort(_) => false,
-    }
-}
-
-// The packet joins the entry at place i by the merge choice.
-fn join_entry(
-    rows: &mut EntryRows,
-    store: &mut [u8],
-    i: usize,
-    choice: MergeChoice,
-    packet: DmxData,
-    values: &[u8],
-) -> bool
-    requires { ⌜ Room (now rows) (now store) × (i < capacity) × (length (now values) ≤ most-values) ⌝ }
-    ensures { λ r. let es = entries-before rows store in
-        ⌜ JoinedIn rows store i (merged choice (getD es i nothing) (dmx packet (now (values .entry)))) r ⌝ }
-{
-    match choice {
-        MergeChoice::DiscardLowestPriorityThenPrevious => {
-            choose_entry(rows, store, i, packet, values);
-            true
-        }
-        MergeChoice::HtpDmxMerge => blend_entry(rows, store, i, packet, values),
-    }
-}
-
-// ── the calls ──
 
 // How many universes wait; their rows and blocks are lent to every call.
 pub struct Waiting {

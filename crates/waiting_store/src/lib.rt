@@ -133,7 +133,7 @@ fn place_of(rows: &EntryRows, n: usize, universe: u16) -> usize
 }
 
 // An entry put at place i: its row and its block.
-// For `waiting_calls`.
+// For `waiting_joins`.
 pub fn write_entry(rows: &mut EntryRows, store: &mut [u8], i: usize, d: DmxData, values: &[u8])
     requires { ⌜ Room (now rows) (now store) × (i < capacity) × (length (now values) ≤ most-values) ⌝ }
     ensures { λ r. let es = entries-before rows store in

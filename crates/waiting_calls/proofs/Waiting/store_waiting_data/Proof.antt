@@ -16,7 +16,7 @@ use Rattle.waiting_store.specs.declared.Found.the-variants.{At, Before}
 use Rattle.waiting.specs.Waiting.{merged}
 use Rattle.waiting_store.specs.Entries.{entries, nothing, lent-room}
 use Rattle.waiting_store.specs.Posts.{Sought}
-use Rattle.waiting_calls.specs.Joins.{Joined}
+use Rattle.waiting_joins.specs.Joins.{Joined}
 use Rattle.waiting_calls.specs.Calls.{StoredCall, StoreCalled, called-taken, called-long, before-within, stores-full, stores-new, stores-merged, stores-refused}
 use borrow.Author.Needs.{needs}
 use Rattle.waiting_calls.proofs.Waiting.store_waiting_data.Statement.{statement}

@@ -9,10 +9,10 @@ use lib.Seq.{length-take-le}
 use Rattle.merge.specs.Merge.{Dmx, htp-answer, htp-output, most-values}
 use Rattle.merge.specs.Views.{dmx}
 use Rattle.waiting_store.specs.Entries.{read-entry}
-use Rattle.waiting_calls.specs.Joins.{entry, blend-refused, blend-long, blend-short, blend-count, blend-merged}
+use Rattle.waiting_joins.specs.Joins.{entry, blend-refused, blend-long, blend-short, blend-count, blend-merged}
 use borrow.Author.Needs.{needs}
-use Rattle.waiting_calls.proofs.blend_entry.Statement.{statement}
-use Rattle.waiting_calls.proofs.blend_entry.Tie as tie
+use Rattle.waiting_joins.proofs.blend_entry.Statement.{statement}
+use Rattle.waiting_joins.proofs.blend_entry.Tie as tie
 
 abbrev packet : tie.Start → Dmx
 packet s = dmx (s .args .packet) (s .args .values .now)

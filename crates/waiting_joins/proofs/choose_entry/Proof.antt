@@ -11,10 +11,10 @@ use Rattle.merge.specs.Views.{dmx}
 use Rattle.merge.specs.Answers.{newer-chosen}
 use Rattle.waiting_store.specs.Entries.{entries, read-entry}
 use Rattle.waiting_store.specs.Posts.{Changed}
-use Rattle.waiting_calls.specs.Joins.{entry, chose-older, chose-newer, chose-long}
+use Rattle.waiting_joins.specs.Joins.{entry, chose-older, chose-newer, chose-long}
 use borrow.Author.Needs.{needs}
-use Rattle.waiting_calls.proofs.choose_entry.Statement.{statement}
-use Rattle.waiting_calls.proofs.choose_entry.Tie as tie
+use Rattle.waiting_joins.proofs.choose_entry.Statement.{statement}
+use Rattle.waiting_joins.proofs.choose_entry.Tie as tie
 
 abbrev packet : tie.Start → Dmx
 packet s = dmx (s .args .packet) (s .args .values .now)

@@ -7,10 +7,10 @@ use Rattle.merge.specs.Views.{dmx}
 use lib.ListN.{getD}
 use Rattle.waiting.specs.Waiting.{merged}
 use Rattle.waiting_store.specs.Entries.{entries, nothing}
-use Rattle.waiting_calls.specs.Joins.{Joined, join-chosen, join-blended}
+use Rattle.waiting_joins.specs.Joins.{Joined, join-chosen, join-blended}
 use borrow.Author.Needs.{needs}
-use Rattle.waiting_calls.proofs.join_entry.Statement.{statement}
-use Rattle.waiting_calls.proofs.join_entry.Tie as tie
+use Rattle.waiting_joins.proofs.join_entry.Statement.{statement}
+use Rattle.waiting_joins.proofs.join_entry.Tie as tie
 
 enum-told : tie.Need-enum-told
 enum-told c = search needs
