@@ -1,14 +1,14 @@
--- What an answer of either merge says of its data, for callers.
+-- What either merge answers, and what an answer says of its data and of the output: for the code and for its callers.
 -- Assumes nothing.
 use mathlib.Core.Path.{_≡_, refl, ap, _∙_}
 use mathlib.Core.Option.{none, some}
 use mathlib.Core.List.{List, _++_}
-use Prim.Native.Nat.{ℕ, _≤_, max}
+use Prim.Native.Nat.{ℕ, _≤_, _<_, max}
 use native.Mathlib.Omega.{arith}
 use lib.Dec.{ltb}
 use lib.ListN.{length, take, drop}
 use lib.Seq.{take-append-seam}
-use borrow.Author.Tests.{ltb-true}
+use borrow.Author.Tests.{ltb-true, lt-ltb, le-ltb}
 use Rattle.laws.specs.Cases.{split}
 use Rattle.merge.specs.declared.DmxData.{DmxData}
 use Rattle.merge.specs.declared.HtpAnswer.{HtpAnswer}
@@ -16,10 +16,24 @@ use Rattle.merge.specs.declared.HtpAnswer.the-variants as htp
 use Rattle.merge.specs.declared.Choice.{Choice}
 use Rattle.merge.specs.declared.Choice.the-variants.{Older, Newer, TooLong}
 use Rattle.merge.specs.Merge.{Dmx, most-values, mergeable, joined, htp-merge, preferred, htp-with, too-long, htp-answer, htp-output, htpNumberOf, htpValuesOf, htp-told, choice, choiceNumberOf, choiceValuesOf, choice-told, chosen}
-use Rattle.merge.specs.Returns.{long-neither}
 
 impossible : {C : Type 0} → _≡_ {A = ℕ} 0 1 → C
 impossible z = absurd (omega arith)
+
+-- ── the lists' lengths ──
+module _ (e p : Dmx) where
+  pub long-older : most-values < length (e .values) → too-long (e .values) (p .values) ≡ some (length (e .values))
+  unfolding too-long
+  long-older h = let f = lt-ltb most-values (length (e .values)) h in cc
+
+  module _ (g : length (e .values) ≤ most-values) where
+    pub long-newer : most-values < length (p .values) → too-long (e .values) (p .values) ≡ some (length (p .values))
+    unfolding too-long
+    long-newer h = let f = le-ltb most-values (length (e .values)) g in let k = lt-ltb most-values (length (p .values)) h in cc
+
+    pub long-neither : length (p .values) ≤ most-values → too-long (e .values) (p .values) ≡ none
+    unfolding too-long
+    long-neither h = let f = le-ltb most-values (length (e .values)) g in let k = le-ltb most-values (length (p .values)) h in cc
 
 -- ── the number and the values of each answer, as document 01 tells them ──
 module _ (e p : Dmx) where
@@ -38,6 +52,14 @@ module _ (e p : Dmx) where
       split (ltb most-values (length (e .values))) (λ h. cc)
       (λ h. split (ltb most-values (length (p .values))) (λ g. cc)
       (λ g. split (ltb (p .head .priority) (e .head .priority)) (λ l. cc) (λ l. cc)))
+
+-- "No stopped call writes output"
+pub htp-stopped : (r : HtpAnswer) (e p : Dmx) (out : List ℕ) → (htpNumberOf r ≡ 0 → ⊥) → htp-output r e p out ≡ out
+unfolding htp-output
+htp-stopped (htp.Merged d n) e p out h = absurd (h refl)
+htp-stopped (htp.TooLong n) e p out h = refl
+htp-stopped htp.Refused e p out h = refl
+htp-stopped (htp.OutputShort n) e p out h = refl
 
 -- the part that is handed on where the newer won
 pub newer-chosen : (c : Choice) (xs ys : List ℕ) → c ≡ Newer → chosen c xs ys ≡ ys

@@ -1,6 +1,5 @@
 pub mod Merge
 pub mod Laws
 pub mod Views
-pub mod Returns
 pub mod Trials
 pub mod Answers

@@ -27,9 +27,9 @@ fn choose_entry(rows: &mut EntryRows, store: &mut [u8], i: usize, packet: DmxDat
     let e = head_of(row);
     let a = i * VALUES;
     let b = a + count_of(row);
-    let c = merge::discard_lowest_priority_then_previous(e, &store[a..b], packet, values);
+    let c = merge_calls::discard_lowest_priority_then_previous(e, &store[a..b], packet, values);
     // The winner's values, where they lie: the older's stay there, and only the newer's are written to the store.
-    let n = merge::chosen_values(c, &store[a..b], values).len();
+    let n = merge_calls::chosen_values(c, &store[a..b], values).len();
     match c {
         Choice::Older => {}
         Choice::Newer => write_entry(rows, store, i, packet, &values[..n]),
@@ -54,7 +54,7 @@ fn blend_entry(
     let a = i * VALUES;
     let b = a + count_of(row);
     let mut block = [0u8; VALUES];
-    match merge::htp_dmx_merge(e, &store[a..b], packet, values, &mut block) {
+    match merge_calls::htp_dmx_merge(e, &store[a..b], packet, values, &mut block) {
         HtpAnswer::Merged(d, m) => {
             write_entry(rows, store, i, d, &block[..m]);
             true

@@ -141,7 +141,7 @@ pub fn write_entry(rows: &mut EntryRows, store: &mut [u8], i: usize, d: DmxData,
 {
     let row = row_of(d, values.len());
     rows[i] = row;
-    merge::copy_values(values, store, i * VALUES);
+    merge_calls::copy_values(values, store, i * VALUES);
 }
 
 // The entry at one place put at another, too.
@@ -349,10 +349,10 @@ fn write_parts(
     ensures { λ r. ⌜ (r ≡ at + 35 + length (now (values .entry)))
         × (now (out .exit) ≡ pasted (now (out .entry)) at (front ++ (cid ++ (back ++ now (values .entry))))) ⌝ }
 {
-    merge::copy_values(&front, &mut *out, at);
-    merge::copy_values(&cid, &mut *out, at + 9);
-    merge::copy_values(&back, &mut *out, at + 25);
-    merge::copy_values(values, &mut *out, at + 35);
+    merge_calls::copy_values(&front, &mut *out, at);
+    merge_calls::copy_values(&cid, &mut *out, at + 9);
+    merge_calls::copy_values(&back, &mut *out, at + 25);
+    merge_calls::copy_values(values, &mut *out, at + 35);
     at + 35 + values.len()
 }
 

@@ -6,12 +6,12 @@ use Prim.Native.Nat.{ℕ, _-_, _≤_}
 use native.Mathlib.Omega.{arith}
 use lib.ListN.{length, length-set}
 use lib.Seq.{paste}
 use Rattle.merge.specs.Merge.{highest}
 use Rattle.laws.specs.Parts.{pasted, part-rest}
-use Rattle.merge.specs.Returns.{highest-turn, highest-laid}
+use Rattle.merge_calls.specs.Returns.{highest-turn, highest-laid}
 use borrow.Author.Needs.{needs}
-use Rattle.merge.proofs.write_highest.Statement.{statement}
-use Rattle.merge.proofs.write_highest.Tie as tie
+use Rattle.merge_calls.proofs.write_highest.Statement.{statement}
+use Rattle.merge_calls.proofs.write_highest.Tie as tie
 
 abbrev Inv-loop : tie.InvT-loop
 Inv-loop shorter longest out₀ n i₀ out i = (i ≤ n) × (n ≡ length shorter) × (length out ≡ length out₀) × (out ≡ paste out₀ 0 (highest shorter longest) i)

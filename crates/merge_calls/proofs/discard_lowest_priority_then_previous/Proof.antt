@@ -1,13 +1,13 @@
 -- The tests are the definition's, in its order.
 -- Assumes nothing.
 use mathlib.Core.Path.{_≡_}
 use Rattle.merge.specs.declared.Choice.{Choice}
 use Rattle.merge.specs.Merge.{Dmx, choice, choiceNumberOf, choiceValuesOf, choice-told}
 use Rattle.merge.specs.Views.{dmx}
-use Rattle.merge.specs.Returns.{long-older, long-newer, long-neither, choice-long, choice-older, choice-newer}
-use Rattle.merge.specs.Answers.{choice-answer-told}
-use Rattle.merge.proofs.discard_lowest_priority_then_previous.Statement.{statement}
-use Rattle.merge.proofs.discard_lowest_priority_then_previous.Tie as tie
+use Rattle.merge_calls.specs.Returns.{choice-long, choice-older, choice-newer}
+use Rattle.merge.specs.Answers.{long-older, long-newer, long-neither, choice-answer-told}
+use Rattle.merge_calls.proofs.discard_lowest_priority_then_previous.Statement.{statement}
+use Rattle.merge_calls.proofs.discard_lowest_priority_then_previous.Tie as tie
 
 abbrev older : tie.Start → Dmx
 older c = dmx (c .args .older) (c .args .older-values .now)

@@ -1,11 +1,11 @@
 -- Each test that fails refuses; what is left is the last test of the definition.
 -- Assumes nothing.
 use Rattle.merge.specs.Merge.{Dmx}
 use Rattle.merge.specs.Views.{dmx}
-use Rattle.merge.specs.Returns.{not-older-empty, not-newer-empty, not-first, not-universe, by-address}
+use Rattle.merge_calls.specs.Returns.{not-older-empty, not-newer-empty, not-first, not-universe, by-address}
 use borrow.Author.Needs.{needs}
-use Rattle.merge.proofs.is_mergeable.Statement.{statement}
-use Rattle.merge.proofs.is_mergeable.Tie as tie
+use Rattle.merge_calls.proofs.is_mergeable.Statement.{statement}
+use Rattle.merge_calls.proofs.is_mergeable.Tie as tie
 
 abbrev older : tie.Start → Dmx
 older c = dmx (c .args .older) (c .args .older-values .now)

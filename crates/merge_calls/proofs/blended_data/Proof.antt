@@ -1,10 +1,10 @@
 -- The fields are the definition's; `either` gives the preview.
 -- Assumes nothing.
 use Rattle.merge.specs.declared.SourceCid.the-variants.{Merged}
 use Rattle.merge.specs.Merge.{blended}
 use borrow.Author.Needs.{needs}
-use Rattle.merge.proofs.blended_data.Statement.{statement}
-use Rattle.merge.proofs.blended_data.Tie as tie
+use Rattle.merge_calls.proofs.blended_data.Statement.{statement}
+use Rattle.merge_calls.proofs.blended_data.Tie as tie
 
 either-requires : tie.Need-either-requires
 either-requires c κs = search needs

@@ -8,8 +8,8 @@ use lib.ListN.{length, length-set}
 use lib.Seq.{paste, paste-zero, paste-suc}
 use Rattle.laws.specs.Parts.{paste-whole}
 use borrow.Author.Needs.{needs}
-use Rattle.merge.proofs.copy_values.Statement.{statement}
-use Rattle.merge.proofs.copy_values.Tie as tie
+use Rattle.merge_calls.proofs.copy_values.Statement.{statement}
+use Rattle.merge_calls.proofs.copy_values.Tie as tie
 
 abbrev Inv-loop : tie.InvT-loop
 Inv-loop values out₀ at i₀ out i = (i ≤ length values) × (length out ≡ length out₀) × (out ≡ paste out₀ at values i)

@@ -6,15 +6,15 @@ use mathlib.Core.Option.{none}
 use Prim.Native.Nat.{_≤_, max}
 use native.Mathlib.Omega.{arith}
 use lib.ListN.{length}
 use Rattle.merge.specs.declared.HtpAnswer.{HtpAnswer}
 use Rattle.merge.specs.Merge.{Dmx, mergeable, too-long, highest, blended, htp-answer, htpNumberOf, htpValuesOf, htp-told}
 use Rattle.merge.specs.Laws.{highest-comm}
 use Rattle.merge.specs.Views.{dmx}
-use Rattle.merge.specs.Returns.{long-older, long-newer, long-neither, htp-long, htp-refused, htp-short, htp-older, htp-newer, htp-equal}
-use Rattle.merge.specs.Answers.{htp-answer-told}
+use Rattle.merge_calls.specs.Returns.{htp-long, htp-refused, htp-short, htp-older, htp-newer, htp-equal}
+use Rattle.merge.specs.Answers.{long-older, long-newer, long-neither, htp-answer-told}
 use borrow.Author.Needs.{needs}
-use Rattle.merge.proofs.htp_dmx_merge.Statement.{statement}
-use Rattle.merge.proofs.htp_dmx_merge.Tie as tie
+use Rattle.merge_calls.proofs.htp_dmx_merge.Statement.{statement}
+use Rattle.merge_calls.proofs.htp_dmx_merge.Tie as tie
 
 abbrev older : tie.Start → Dmx
 older s = dmx (s .args .older) (s .args .older-values .now)

@@ -1,9 +1,9 @@
 -- The choice says which list is handed on.
 -- Assumes nothing.
 use Rattle.merge.specs.Merge.{chosen}
 use borrow.Author.Needs.{needs}
-use Rattle.merge.proofs.chosen_values.Statement.{statement}
-use Rattle.merge.proofs.chosen_values.Tie as tie
+use Rattle.merge_calls.proofs.chosen_values.Statement.{statement}
+use Rattle.merge_calls.proofs.chosen_values.Tie as tie
 
 enum-told : tie.Need-enum-told
 enum-told c = search needs

@@ -13,12 +13,12 @@ use lib.ListN.{length, take, drop, getD, set, take-append-drop}
 use lib.Seq.{paste, paste-suc, length-take-le}
 use borrow.Author.Tests.{lt-ltb, le-ltb, eq-eqb, ne-eqb}
 use Rattle.laws.specs.Parts.{pasted, pasted-append, pasted-front}
 use Rattle.merge.specs.declared.DmxData.{DmxData}
 use Rattle.merge.specs.declared.HtpAnswer.{HtpAnswer}
 use Rattle.merge.specs.declared.HtpAnswer.the-variants as htp
 use Rattle.merge.specs.declared.Choice.the-variants.{Older, Newer, TooLong}
-use Rattle.merge.specs.Merge.{Dmx, most-values, same-start, mergeable, highest, blended, joined, htp-merge, too-long, htp-with, htp-answer, htp-output, choice}
+use Rattle.merge.specs.Merge.{Dmx, same-start, mergeable, highest, blended, joined, htp-merge, too-long, htp-with, htp-answer, htp-output, choice}
 use Rattle.merge.specs.Laws.{length-highest}
 
 -- ── the highest values, place by place ──
 -- a place of both lists, where the first is not the longer
@@ -98,20 +98,6 @@ module _ (e p : Dmx) where
           let f = eq-eqb (getD (e .values) 0 0) (getD (p .values) 0 0) x in
           let k = eq-eqb (e .head .universe) (p .head .universe) u in
           cc (mergeable-first)
-
-  -- ── the lists' lengths ──
-  pub long-older : most-values < length (e .values) → too-long (e .values) (p .values) ≡ some (length (e .values))
-  unfolding too-long
-  long-older h = let f = lt-ltb most-values (length (e .values)) h in cc
-
-  module _ (g : length (e .values) ≤ most-values) where
-    pub long-newer : most-values < length (p .values) → too-long (e .values) (p .values) ≡ some (length (p .values))
-    unfolding too-long
-    long-newer h = let f = le-ltb most-values (length (e .values)) g in let k = lt-ltb most-values (length (p .values)) h in cc
-
-    pub long-neither : length (p .values) ≤ most-values → too-long (e .values) (p .values) ≡ none
-    unfolding too-long
-    long-neither h = let f = le-ltb most-values (length (e .values)) g in let k = le-ltb most-values (length (p .values)) h in cc
 
   -- ── the choice by priority ──
   pub choice-long : {n : ℕ} → too-long (e .values) (p .values) ≡ some n → TooLong n ≡ choice e p
