@@ -19,7 +19,6 @@ use Rattle.model.specs.declared.StepAnswer.{StepAnswer}
 use Rattle.model.specs.Packet as model
 use Rattle.model.specs.State.{State}
 use Rattle.model.specs.Step.{with-waiting, with-listened, dmx, synchronised, accepted}
-use Rattle.packets.specs.declared.DataPacket.{DataPacket}
 
 -- the waiting data and the listened universes, with their headers
 pub record Lent : Type 0 where

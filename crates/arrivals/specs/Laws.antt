@@ -24,7 +24,7 @@ use Rattle.model.specs.declared.StepAnswer.{StepAnswer}
 use Rattle.model.specs.declared.StepAnswer.the-variants as says
 use Rattle.model.specs.Packet as model
 use Rattle.model.specs.State.{State}
-use Rattle.model.specs.Step.{Outcome, outcome, with-waiting, heard, kept, accepted, release, with-data, with-sync, if-accepted, stopped, data-arrival, sync-arrival, synchronise, data-pair, sync-pair}
+use Rattle.model.specs.Step.{Outcome, outcome, with-waiting, accepted, release, with-data, with-sync, if-accepted, stopped, data-arrival, sync-arrival, synchronise, data-pair, sync-pair}
 use Rattle.packets.specs.declared.DataPacket.{DataPacket}
 use Rattle.pairs.specs.declared.Checked.{Checked}
 use Rattle.pairs.specs.declared.Checked.the-variants as checked

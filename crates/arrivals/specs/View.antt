@@ -18,9 +18,7 @@ use Rattle.model.specs.declared.StepAnswer.{StepAnswer}
 use Rattle.model.specs.declared.StepAnswer.the-variants as says
 use Rattle.model.specs.Packet as model
 use Rattle.model.specs.State.{State}
-use Rattle.model.specs.Step.{with-data, with-sync, with-waiting, with-listened, kept, data-arrival, sync-arrival}
-use Rattle.packets.specs.declared.DataPacket.{DataPacket}
-use Rattle.packets.specs.declared.SyncPacket.{SyncPacket}
+use Rattle.model.specs.Step.{with-data, with-sync, with-waiting, with-listened, data-arrival, sync-arrival}
 use Rattle.arrivals.specs.declared.Short.{Short}
 use Rattle.arrivals.specs.declared.Short.the-variants as short
 use Rattle.acceptance.specs.View.{Lent, waits, hears, Ready}

@@ -7,3 +7,4 @@ pub mod Parts
 pub mod Gap
 pub mod Lent
 pub mod Halving
+pub mod Ascii

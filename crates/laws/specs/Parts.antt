@@ -2,13 +2,13 @@
 -- Assumes nothing.
 use mathlib.Core.Path.{_≡_, sym, ap, _∙_}
 use mathlib.Core.Logic.{_⊎_, ⊎-elim}
-use mathlib.Core.List.{List, [], _++_, append-assoc}
+use mathlib.Core.List.{List, [], _∷_, _++_, append-assoc}
 use Prim.Native.Nat.{ℕ, _+_, _-_, _≤_, _<_}
 use native.Mathlib.Omega.{arith}
 use native.Mathlib.Numerals.{add-one}
 use native.Mathlib.Nat.{add-assoc, zero-add, add-zero}
 use lib.ListN.{length, take, drop, getD, set, List·getD-append, length-append, length-drop, take-append-drop}
-use lib.Seq.{paste, paste-suc, length-paste-head, getD-take, getD-drop, getD-append-add, take-all, take-add, take-length, length-take-le, drop-append-add, take-at, drop-drop}
+use lib.Seq.{take-suc, paste, paste-suc, length-paste-head, getD-take, getD-drop, getD-append-add, take-all, take-add, take-length, length-take-le, drop-append-add, take-at, drop-drop}
 
 -- xs over what stands in l from the place `at` on
 abbrev pub pasted : {A : Type 0} → List A → ℕ → List A → List A
@@ -100,3 +100,7 @@ copy-turn l m from to n k z f t apart h e =
     (λ a. paste-before l to (drop from l) k (omega arith) (omega arith) (from + k) z (omega arith))
     (λ a. paste-after l to (drop from l) k (omega arith) (omega arith) (from + k) z (omega arith)) apart) in
     rw (add-one k, g, e, ← getD-drop from l k z) (paste-suc l to (drop from l) k z (omega arith) (omega arith))
+
+-- one element more
+pub take-more : {A : Type 0} (s : List A) (i : ℕ) (d : A) → i < length s → take (i + 1) s ≡ take i s ++ getD s i d ∷ []
+take-more s i d h = rw (add-one i) (take-suc s i d h)

@@ -10,7 +10,6 @@ use Rattle.packets.specs.declared.DiscoveryPacket.{DiscoveryPacket}
 use mathlib.Core.Bool.{Bool, cond}
 use Rattle.merge.specs.declared.DmxData.{DmxData}
 use Rattle.merge.specs.declared.SourceCid.the-variants.{Of}
-use Rattle.model.specs.Step.{terminated}
 use Rattle.packets.specs.declared.Course.{Course}
 use Rattle.packets.specs.declared.Course.the-variants as course
 

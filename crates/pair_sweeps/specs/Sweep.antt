@@ -122,6 +122,10 @@ pub ascending-rows : (l : Rows) → Ascending before itself (map cidOf l) → As
 ascending-rows [] a = tt
 ascending-rows (r ∷ l) a = (under-rows (cidOf r) l (a .0), ascending-rows l (a .1))
 
+-- the row that is looked at, and those behind it
+ahead : (m : ℕ) (s : Rows) (i : ℕ) → i < m → i < length s → Ascending before cidOf (drop i (take m s)) → Ascending before cidOf (getD s i [] ∷ drop (i + 1) (take m s))
+ahead m s i h ls a = rw (next s m i [] h ls) at a
+
 pub walk-starts : (l : Rows) (m : ℕ) (s : Rows) → Ascending before itself (map cidOf (take m s)) → Walk l (take m s) m s 0 0 0
 walk-starts l m s a = record { done = refl; rest = ascending-rows (take m s) a }
 
@@ -130,9 +134,6 @@ passed : (c : Cid) (l : Rows) (j k : ℕ) → k ≡ j + prefix (row-before c) (d
 passed c l j k e = ap (λ (n : ℕ). drop n l) e ∙ sym (drop-drop (prefix (row-before c) (drop j l)) j l)
 
 module _ {l all : Rows} {m : ℕ} {s : Rows} {kept i j : ℕ} (w : Walk l all m s kept i j) (h : i < m) (ls : i < length s) where
-  ahead : Ascending before cidOf (getD s i [] ∷ drop (i + 1) (take m s))
-  ahead = rw (next s m i [] h ls) at (w .rest)
-
   module _ (k : ℕ) (e : k ≡ j + prefix (row-before (cidOf (getD s i []))) (drop j l)) where
     agree : (d : Cid) → before d (cidOf (getD s i [])) ≡ false → has (map pairOf (drop k l)) d ≡ has (map pairOf (drop j l)) d
     agree d f = rw (passed (cidOf (getD s i [])) l j k e) (has-skip (cidOf (getD s i [])) d (drop j l) f)
@@ -142,7 +143,7 @@ module _ {l all : Rows} {m : ℕ} {s : Rows} {kept i j : ℕ} (w : Walk l all m 
     walk-skip = record {
       done =
           let a = agree (cidOf (getD s i [])) (cid-order .irrefl (cidOf (getD s i []))) in
-          let b = keep-agree before cidOf (owner (drop k l)) (owner (drop j l)) (cidOf (getD s i [])) (drop (i + 1) (take m s)) (ahead .0)
+          let b = keep-agree before cidOf (owner (drop k l)) (owner (drop j l)) (cidOf (getD s i [])) (drop (i + 1) (take m s)) (ahead m s i h ls (w .rest) .0)
           (λ r f. agree (cidOf r) (asym before cid-order (cidOf (getD s i [])) (cidOf r) f)) in
           ap (λ (t : Rows). take kept s ++ t) (rw (next s m i [] h ls, a, b)) ∙ w .done;
       rest = w .rest;
@@ -155,12 +156,12 @@ module _ {l all : Rows} {m : ℕ} {s : Rows} {kept i j : ℕ} (w : Walk l all m 
         (rw (passed (cidOf (getD s i [])) l j k e) (λ n. skip-stop (row-before (cidOf (getD s i []))) (drop j l) [] n))
 
   pub walk-drop : owner (drop j l) (getD s i []) ≡ false → Walk l all m s kept (i + 1) j
-  walk-drop e = record { done = compact-drop s m (owner (drop j l)) kept i [] h ls e ∙ w .done; rest = ahead .1 }
+  walk-drop e = record { done = compact-drop s m (owner (drop j l)) kept i [] h ls e ∙ w .done; rest = ahead m s i h ls (w .rest) .1 }
 
   pub walk-keep : kept ≤ i → owner (drop j l) (getD s i []) ≡ true → Walk l all m (set s kept (getD s i [])) (kept + 1) (i + 1) j
   walk-keep k e = record {
     done = compact-keep s m (owner (drop j l)) kept i [] h ls k e ∙ w .done;
-    rest = rw (untouched s m kept (i + 1) (getD s i []) (omega arith)) (ahead .1);
+    rest = rw (untouched s m kept (i + 1) (getD s i []) (omega arith)) (ahead m s i h ls (w .rest) .1);
   }
 
 pub walk-done : {l all : Rows} {m : ℕ} {s : Rows} {kept i j : ℕ} → Walk l all m s kept i j → drop i (take m s) ≡ []
@@ -276,12 +277,9 @@ note-starts now l m s a = record { done = first (last-noted now (map pairOf l) (
     first (some p) = refl
 
 module _ {now : ℕ} {l : Rows} {m : ℕ} {s : Rows} {last : SweepAnswer} {i j : ℕ} (w : NoteWalk now l m s last i j) (h : i < m) (ls : i < length s) where
-  -- the CID that is looked at, and the sources behind it
+  -- the CID that is looked at
   abbrev own : Cid
   own = cidOf (getD s i [])
-
-  behind : Ascending before cidOf (getD s i [] ∷ drop (i + 1) (take m s))
-  behind = rw (next s m i [] h ls) at (w .rest)
 
   pub note-skip : (k : ℕ) → k ≡ j + prefix (row-before own) (drop j l) → NoteWalk now l m s last i k
   unfolding last-noted
@@ -289,7 +287,7 @@ module _ {now : ℕ} {l : Rows} {m : ℕ} {s : Rows} {last : SweepAnswer} {i j :
       let agree : (d : Cid) → before d own ≡ false → lowest now (map pairOf (drop k l)) d ≡ lowest now (map pairOf (drop j l)) d =
       λ d f. rw (passed own l j k e) (lowest-skip now own d (drop j l) f) in
       let a = agree own (cid-order .irrefl own) in
-      let b = noted-agree now (map pairOf (drop k l)) (map pairOf (drop j l)) own (drop (i + 1) (take m s)) (behind .0) (λ d f. agree d (asym before cid-order own d f)) in
+      let b = noted-agree now (map pairOf (drop k l)) (map pairOf (drop j l)) own (drop (i + 1) (take m s)) (ahead m s i h ls (w .rest) .0) (λ d f. agree d (asym before cid-order own d f)) in
       let q : last-noted now (map pairOf (drop k l)) (map cidOf (drop i (take m s))) ≡ last-noted now (map pairOf (drop j l)) (map cidOf (drop i (take m s))) = rw (next s m i [] h ls, a, b) in
       record { done = ap (λ (o : Option Pair). later-note last (noteOf o)) q ∙ w .done; rest = w .rest }
 
@@ -303,7 +301,7 @@ module _ {now : ℕ} {l : Rows} {m : ℕ} {s : Rows} {last : SweepAnswer} {i j :
         ∙ ap (later-note last) (ap (λ (x : SweepAnswer). later-note x (noteOf others)) e ∙ sym (later-noted (lowest now (map pairOf (drop j l)) own) others))
         ∙ ap (λ (t : Rows). later-note last (noteOf (last-noted now (map pairOf (drop j l)) (map cidOf t)))) (sym (next s m i [] h ls))
         ∙ w .done;
-    rest = behind .1;
+    rest = ahead m s i h ls (w .rest) .1;
   }
 
 pub note-done : {now : ℕ} {l : Rows} {m : ℕ} {s : Rows} {last : SweepAnswer} {i j : ℕ} → NoteWalk now l m s last i j → drop i (take m s) ≡ []

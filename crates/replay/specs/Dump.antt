@@ -11,8 +11,8 @@ use Rattle.merge.specs.declared.SourceCid.the-variants.{Merged, Of}
 use Rattle.merge.specs.Merge.{Dmx}
 use Rattle.discovery.specs.Discovery.{Page, Source, Discovered}
 use Rattle.model.specs.State.{State}
-use Rattle.script.specs.Ascii.{ascii}
-use Rattle.script.specs.Text.{decimalOf, bitOf, cidText, byteText, listText}
+use Rattle.laws.specs.Ascii.{ascii}
+use Rattle.printing.specs.Text.{decimalOf, bitOf, cidText, byteText, listText}
 
 -- a text for each element, one behind the other
 unfoldable pub lines : {A : Type 0} → (A → List ℕ) → List A → List ℕ

@@ -19,8 +19,9 @@ use Rattle.merge.specs.declared.DmxData.{DmxData}
 use Rattle.merge.specs.Merge.{Dmx}
 use Rattle.merge.specs.Views.{dmx}
 use Rattle.waiting_store.specs.Entries.{entries, waitingOf, length-entries}
-use Rattle.script.specs.Text.{cidText, Tells}
-use Rattle.script.specs.TextLaws.{tells-then, tells-as, take-more}
+use Rattle.printing.specs.Text.{cidText, Tells}
+use Rattle.laws.specs.Parts.{take-more}
+use Rattle.printing.specs.TextLaws.{tells-then, tells-as}
 use Rattle.replay.specs.Dump.{lines, cidsTail, cidsText, pageLine, headLine, sourceText}
 
 lines-snoc : {A : Type 0} (f : A → List ℕ) (xs : List A) (x : A) → lines f (xs ++ x ∷ []) ≡ lines f xs ++ f x

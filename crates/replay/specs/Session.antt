@@ -28,10 +28,10 @@ use Rattle.script.specs.declared.parse.Setting.{Setting}
 use Rattle.script.specs.declared.parse.Setting.the-variants as sets
 use Rattle.replay.specs.declared.calls.Session.{Session}
 use Rattle.script.specs.declared.lines.Input.{Input}
-use Rattle.script.specs.Ascii.{ascii}
+use Rattle.laws.specs.Ascii.{ascii}
 use Rattle.script.specs.Lines.{Unread, silent}
-use Rattle.script.specs.Text.{Ready, Tells}
-use Rattle.script.specs.Answers.{answerLine, flagLine, stepLine}
+use Rattle.printing.specs.Text.{Ready, Tells}
+use Rattle.printing.specs.Answers.{answerLine, flagLine, stepLine}
 use Rattle.replay.specs.Dump.{dumpText}
 use Rattle.script.specs.Script.{lineOf}
 

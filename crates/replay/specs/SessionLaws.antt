@@ -17,9 +17,9 @@ use Rattle.receiver.specs.declared.Receiver.{Receiver}
 use Rattle.receiver.specs.View.{Memory, with-listened-rows, stateOf, spaceIn, Sized, Kept, Begins, Does, Becomes}
 use Rattle.handlers.specs.View.{Steps}
 use Rattle.replay.specs.declared.calls.Session.{Session}
-use Rattle.script.specs.Text.{Tells}
-use Rattle.script.specs.TextLaws.{tells-as}
-use Rattle.script.specs.Answers.{answerLine, flagLine, stepLine}
+use Rattle.printing.specs.Text.{Tells}
+use Rattle.printing.specs.TextLaws.{tells-as}
+use Rattle.printing.specs.Answers.{answerLine, flagLine, stepLine}
 use Rattle.replay.specs.Session.{Outcome, outcome, begun, called, changed, stepped, Fit, Carries}
 
 -- the lengths of the lent arrays, out of what calls keep

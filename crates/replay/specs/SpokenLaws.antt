@@ -41,7 +41,7 @@ use Rattle.script.specs.declared.parse.ReadingWord.{ReadingWord}
 use Rattle.script.specs.declared.parse.ReadingWord.the-variants as reading
 use Rattle.script.specs.declared.parse.Word.{Word}
 use Rattle.script.specs.declared.parse.Word.the-variants as word
-use Rattle.script.specs.Ascii.{ascii}
+use Rattle.laws.specs.Ascii.{ascii}
 use Rattle.script.specs.Fields.{eql, ending, numberOf, smallOf, octetOf, flagOf, byteStringOf, listOf}
 use Rattle.script.specs.Script
 use Rattle.script.specs.Script.{Reading, Reads, plain, firstOf, restOf, pastFive, loneOf, wordOf, flagged, aimed, timed, mergeOf, limit-number, limitOf, stampOf, numbersOf, data-values, data-numbers, data-stamp, dataOf, sync-sequence, sync-address, sync-stamp, syncOf, page-universes, page-name, page-last, page-number, page-stamp, discoveryOf, listen-list, fieldsOf, lineOf}

@@ -4,7 +4,7 @@ ghost use lib.ListN.{length};
 ghost use Rattle.receiver.specs.Contracts.{lent, lent-in};
 ghost use Rattle.receiver.specs.View.{Memory, memory, stateOf};
 ghost use Rattle.script.specs.Lines.{silent};
-ghost use Rattle.script.specs.Text.{Ready};
+ghost use Rattle.printing.specs.Text.{Ready};
 ghost use Rattle.replay.specs.Session.{refused, adjusted, dumped, carried, spoken, Fit, Carries, Runs};
 use crate::calls::Session;
 use crate::calls::ask;
@@ -29,6 +29,9 @@ use libc::STDERR_FILENO;
 use listening::ListenedUniverses;
 use pair_rows::PairRows;
 use pair_rows::SourceRows;
+use printing::print::flush;
+use printing::print::has_failed;
+use printing::print::put_text;
 use script::lines::Input;
 use script::lines::is_longer;
 use script::lines::next_line;
@@ -36,9 +39,6 @@ use script::lines::without_return;
 use script::parse::Command;
 use script::parse::Setting;
 use script::parse::parse_line;
-use script::print::flush;
-use script::print::has_failed;
-use script::print::put_text;
 use waiting_store::EntryRows;
 
 // The most bytes of a line, its end not counted.

@@ -13,7 +13,7 @@ use borrow.Author.Tests.{ne-eqb}
 use Rattle.script.specs.declared.lines.Line.{Line}
 use Rattle.script.specs.Fields.{Ends}
 use Rattle.script.specs.Lines.{Unread, Appended, Pieced, between, unreturned, silent}
-use Rattle.script.specs.TextLaws.{take-more}
+use Rattle.laws.specs.Parts.{take-more}
 
 -- a loop that copies byte by byte: the first i bytes of the part stand behind the first n of the line
 pub record Copied (line : List ℕ) (n : ℕ) (part line′ : List ℕ) (k i : ℕ) : Type 0 where

@@ -37,7 +37,7 @@ use Rattle.script.specs.declared.parse.ReadingWord.{ReadingWord}
 use Rattle.script.specs.declared.parse.ReadingWord.the-variants as reading
 use Rattle.script.specs.declared.parse.Word.{Word}
 use Rattle.script.specs.declared.parse.Word.the-variants as word
-use Rattle.script.specs.Ascii.{ascii}
+use Rattle.laws.specs.Ascii.{ascii}
 use Rattle.script.specs.Fields.{eql, ending, numberOf, smallOf, octetOf, optionsOf, flagOf, sourceOf, byteStringOf, listOf}
 
 -- ── fields separated by one space ──

@@ -14,7 +14,7 @@ use Rattle.waiting_store.specs.Entries.{lent-none}
 use Rattle.waiting_store.specs.Entries as entries
 use Rattle.waiting_calls.specs.Calls.{SweptCall, none-swept}
 use Rattle.model.specs.State.{State}
-use Rattle.model.specs.Step.{kept, with-data, with-sync, poll, poll-sync, poll-waiting}
+use Rattle.model.specs.Step.{with-data, with-sync, poll, poll-sync, poll-waiting}
 use Rattle.pairs.specs.Table.{Table, Key, key, sweep}
 use Rattle.rules.specs.declared.Cid.{Cid}
 use Rattle.pairs.specs.declared.SweepAnswer.{SweepAnswer}

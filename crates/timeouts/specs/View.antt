@@ -16,7 +16,7 @@ use Rattle.pair_rows.specs.View.{Rows}
 use Rattle.sequences.specs.declared.SequenceNumbering.{SequenceNumbering}
 use Rattle.sequences.specs.View as sequences
 use Rattle.model.specs.State.{State}
-use Rattle.model.specs.Step.{with-data, with-sync, with-waiting, kept, poll}
+use Rattle.model.specs.Step.{with-data, with-sync, with-waiting, poll}
 
 -- the poll
 pub record Polls (S : Settings) (now : ℕ) (q : SequenceNumbering) (m : sequences.Lent) (n : ℕ) (rows : Rows) (store : List ℕ) (q′ : SequenceNumbering) (m′ : sequences.Lent) (n′ : ℕ) (rows′ : Rows) (store′ : List ℕ) (answer : SweepAnswer) : Type 0 where

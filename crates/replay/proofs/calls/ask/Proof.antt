@@ -1,8 +1,8 @@
 -- The receiver is as it was.
 -- Assumes nothing.
 use mathlib.Core.Path.{refl, ap}
-use Rattle.script.specs.Answers.{flagLine}
-use Rattle.script.specs.TextLaws.{tells-as}
+use Rattle.printing.specs.Answers.{flagLine}
+use Rattle.printing.specs.TextLaws.{tells-as}
 use Rattle.replay.specs.SessionLaws.{carries-same}
 use borrow.Author.Needs.{needs}
 use Rattle.replay.proofs.calls.ask.Statement.{statement}

@@ -4,8 +4,8 @@ use mathlib.Core.Path.{refl, ap}
 use mathlib.Core.List.{[]}
 use Rattle.settings.specs.declared.Limited.{Limited}
 use Rattle.settings.specs.Settings.{numberOf}
-use Rattle.script.specs.Answers.{answerLine}
-use Rattle.script.specs.TextLaws.{tells-as}
+use Rattle.printing.specs.Answers.{answerLine}
+use Rattle.printing.specs.TextLaws.{tells-as}
 use Rattle.replay.specs.SessionLaws.{carries-same}
 use borrow.Author.Needs.{needs}
 use Rattle.replay.proofs.calls.set_limit.Statement.{statement}

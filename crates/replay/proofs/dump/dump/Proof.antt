@@ -1,6 +1,6 @@
 -- The parts follow one another.
 -- Assumes nothing.
-use Rattle.script.specs.TextLaws.{tells-then}
+use Rattle.printing.specs.TextLaws.{tells-then}
 use borrow.Author.Needs.{needs}
 use Rattle.replay.proofs.dump.dump.Statement.{statement}
 use Rattle.replay.proofs.dump.dump.Tie as tie

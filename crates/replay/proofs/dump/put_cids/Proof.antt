@@ -7,8 +7,8 @@ use native.Mathlib.Omega.{arith}
 use lib.ListN.{length, take, drop, getD}
 use Rattle.rules.specs.declared.Cid.{Cid}
 use Rattle.pair_rows.specs.View.{cidOf}
-use Rattle.script.specs.Text.{Tells, cidText}
-use Rattle.script.specs.TextLaws.{tells-none, tells-as, tells-then}
+use Rattle.printing.specs.Text.{Tells, cidText}
+use Rattle.printing.specs.TextLaws.{tells-none, tells-as, tells-then}
 use Rattle.replay.specs.Dump.{cidsTail}
 use Rattle.replay.specs.DumpLaws.{tells-cid, cids-none, cids-first, cids-begun}
 use borrow.Author.Needs.{needs}

@@ -5,7 +5,7 @@ use mathlib.Core.List.{List, _++_}
 use Prim.Native.Nat.{ℕ}
 use lib.ListN.{length}
 use Rattle.discovery.specs.Discovery.{Source}
-use Rattle.script.specs.TextLaws.{tells-as, tells-then}
+use Rattle.printing.specs.TextLaws.{tells-as, tells-then}
 use Rattle.replay.specs.Dump.{lines, sourceText}
 use Rattle.replay.specs.DumpLaws.{partial-sources, listed-sources}
 use borrow.Author.Needs.{needs}

@@ -1,8 +1,8 @@
 -- The fields follow one another.
 -- Assumes nothing.
 use mathlib.Core.Path.{ap}
-use Rattle.script.specs.Text.{byteText}
-use Rattle.script.specs.TextLaws.{tells-as, tells-then}
+use Rattle.printing.specs.Text.{byteText}
+use Rattle.printing.specs.TextLaws.{tells-as, tells-then}
 use native.Mathlib.Omega.{arith}
 use borrow.Author.Needs.{needs}
 use Rattle.replay.proofs.dump.put_head.Statement.{statement}

@@ -1,8 +1,8 @@
 -- The mark, then the list.
 -- Assumes nothing.
 use mathlib.Core.Path.{ap}
-use Rattle.script.specs.Text.{listText}
-use Rattle.script.specs.TextLaws.{tells-as, tells-then}
+use Rattle.printing.specs.Text.{listText}
+use Rattle.printing.specs.TextLaws.{tells-as, tells-then}
 use borrow.Author.Needs.{needs}
 use Rattle.replay.proofs.dump.put_listened.Statement.{statement}
 use Rattle.replay.proofs.dump.put_listened.Tie as tie

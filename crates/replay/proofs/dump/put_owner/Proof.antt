@@ -2,7 +2,7 @@
 -- Assumes nothing.
 use mathlib.Core.Path.{sym, ap}
 use Rattle.replay.specs.Dump.{ownerText}
-use Rattle.script.specs.TextLaws.{tells-as}
+use Rattle.printing.specs.TextLaws.{tells-as}
 use borrow.Author.Needs.{needs}
 use Rattle.replay.proofs.dump.put_owner.Statement.{statement}
 use Rattle.replay.proofs.dump.put_owner.Tie as tie

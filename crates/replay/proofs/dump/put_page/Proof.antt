@@ -1,6 +1,6 @@
 -- The fields follow one another.
 -- Assumes nothing.
-use Rattle.script.specs.TextLaws.{tells-then}
+use Rattle.printing.specs.TextLaws.{tells-then}
 use borrow.Author.Needs.{needs}
 use Rattle.replay.proofs.dump.put_page.Statement.{statement}
 use Rattle.replay.proofs.dump.put_page.Tie as tie

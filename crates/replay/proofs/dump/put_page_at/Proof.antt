@@ -4,7 +4,7 @@ use mathlib.Core.Path.{_≡_, sym, ap, _∙_}
 use mathlib.Core.List.{[]}
 use native.Mathlib.Omega.{arith}
 use lib.ListN.{getD}
-use Rattle.script.specs.TextLaws.{tells-as}
+use Rattle.printing.specs.TextLaws.{tells-as}
 use Rattle.replay.specs.Dump.{pageLine}
 use Rattle.replay.specs.DumpLaws.{first-page, page-read, page-placed}
 use borrow.Author.Needs.{needs}

@@ -6,8 +6,8 @@ use native.Mathlib.Omega.{arith}
 use lib.ListN.{length, take}
 use lib.Seq.{take-all}
 use Rattle.discovery_reads.specs.Reads.{pages-of}
-use Rattle.script.specs.Text.{Tells}
-use Rattle.script.specs.TextLaws.{tells-none, tells-as}
+use Rattle.printing.specs.Text.{Tells}
+use Rattle.printing.specs.TextLaws.{tells-none, tells-as}
 use Rattle.replay.specs.Dump.{lines, pageLine}
 use Rattle.replay.specs.DumpLaws.{first-page, tells-line}
 use borrow.Author.Needs.{needs}

@@ -7,8 +7,8 @@ use native.Mathlib.Omega.{arith}
 use lib.ListN.{length, take, getD}
 use Rattle.pairs.specs.declared.Pair.{Pair}
 use Rattle.pair_rows.specs.View.{pairOf, pairsOf}
-use Rattle.script.specs.Text.{Tells}
-use Rattle.script.specs.TextLaws.{tells-none, tells-as}
+use Rattle.printing.specs.Text.{Tells}
+use Rattle.printing.specs.TextLaws.{tells-none, tells-as}
 use Rattle.replay.specs.Dump.{lines, pairLine}
 use Rattle.replay.specs.DumpLaws.{tells-row}
 use borrow.Author.Needs.{needs}

@@ -2,7 +2,7 @@
 -- Assumes nothing.
 use mathlib.Core.Path.{_≡_, sym, ap, _∙_}
 use native.Mathlib.Omega.{arith}
-use Rattle.script.specs.TextLaws.{tells-as, tells-then}
+use Rattle.printing.specs.TextLaws.{tells-as, tells-then}
 use Rattle.replay.specs.Dump.{sourceText}
 use Rattle.replay.specs.DumpLaws.{first-source, source-placed, source-read}
 use borrow.Author.Needs.{needs}

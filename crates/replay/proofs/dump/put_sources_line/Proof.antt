@@ -1,6 +1,6 @@
 -- The mark, the CIDs and the line end.
 -- Assumes nothing.
-use Rattle.script.specs.TextLaws.{tells-then}
+use Rattle.printing.specs.TextLaws.{tells-then}
 use borrow.Author.Needs.{needs}
 use Rattle.replay.proofs.dump.put_sources_line.Statement.{statement}
 use Rattle.replay.proofs.dump.put_sources_line.Tie as tie

@@ -1,6 +1,6 @@
 -- The space, then the number.
 -- Assumes nothing.
-use Rattle.script.specs.TextLaws.{tells-then}
+use Rattle.printing.specs.TextLaws.{tells-then}
 use borrow.Author.Needs.{needs}
 use Rattle.replay.proofs.dump.put_spaced.Statement.{statement}
 use Rattle.replay.proofs.dump.put_spaced.Tie as tie

@@ -1,6 +1,6 @@
 -- The pairs, then the sources.
 -- Assumes nothing.
-use Rattle.script.specs.TextLaws.{tells-then}
+use Rattle.printing.specs.TextLaws.{tells-then}
 use borrow.Author.Needs.{needs}
 use Rattle.replay.proofs.dump.put_table.Statement.{statement}
 use Rattle.replay.proofs.dump.put_table.Tie as tie

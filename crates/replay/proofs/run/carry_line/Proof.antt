@@ -4,7 +4,7 @@ use mathlib.Core.Path.{refl, sym, _∙_}
 use native.Mathlib.Omega.{arith}
 use lib.ListN.{length}
 use Rattle.receiver.specs.View.{Memory, memory, stateOf}
-use Rattle.script.specs.TextLaws.{tells-none}
+use Rattle.printing.specs.TextLaws.{tells-none}
 use Rattle.replay.specs.SessionLaws.{carries-as, carries-same}
 use Rattle.replay.specs.SpokenLaws.{spoken-silent, spoken-long, spoken-said}
 use borrow.Author.Needs.{needs}

@@ -1,0 +1,53 @@
+-- Each answer has its line.
+-- Assumes nothing.
+use mathlib.Core.Path.{sym, ap}
+use Rattle.model.specs.declared.ExpiryAnswer.{ExpiryAnswer}
+use Rattle.model.specs.Answer.{expiryNumber, expiryValues}
+use Rattle.printing.specs.Answers.{answerLine}
+use Rattle.printing.specs.TextLaws.{tells-as}
+use borrow.Author.Needs.{needs}
+use Rattle.printing.proofs.answers.put_expiry.Statement.{statement}
+use Rattle.printing.proofs.answers.put_expiry.Tie as tie
+
+enum-told : tie.Need-enum-told
+enum-told c = search needs
+
+put-number-requires : tie.Need-put-number-requires
+put-number-requires c κs = search needs
+
+enum-known-answer : tie.Need-enum-known-answer
+enum-known-answer c = search needs
+
+put-value-requires : tie.Need-put-value-requires
+put-value-requires c κs = search needs
+
+same-length : tie.Need-same-length
+same-length c = search needs
+
+returns : tie.Need-returns
+returns c =
+    let c1 = c .before .before in
+    let c2 = c1 .before .before in
+    tells-as (ap (λ (a : ExpiryAnswer). answerLine (expiryNumber a) (expiryValues a)) (sym (c2 .enum-told .given .1))) (c1 .put-number .ensures)
+
+same-length-2 : tie.Need-same-length-2
+same-length-2 c = search needs
+
+returns-2 : tie.Need-returns-2
+returns-2 c =
+    let c1 = c .before .before in
+    let c2 = c1 .before .before .before in
+    tells-as (ap (λ (a : ExpiryAnswer). answerLine (expiryNumber a) (expiryValues a)) (sym (c2 .answer .given .1))) (c1 .put-value .ensures)
+
+pub put-expiry-spec : {M : Type 1} → statement M
+put-expiry-spec =
+    tie.close
+    (tie.spec
+    enum-told
+    put-number-requires
+    enum-known-answer
+    put-value-requires
+    same-length
+    returns
+    same-length-2
+    returns-2)
