@@ -162,6 +162,7 @@ impl Cid {
         ]
     }
 
+    // Whether the sixteen bytes are the same (law same-words).
     pub fn is_same(self, other: Cid) -> bool
         ensures { λ r. ⌜ r ≡ same self other ⌝ }
     {
@@ -171,6 +172,7 @@ impl Cid {
         self.lo == other.lo
     }
 
+    // The order of the sixteen bytes (law before-words). Less is asked first: most rows that a walk meets are (decision 22).
     pub fn is_before(self, other: Cid) -> bool
         ensures { λ r. ⌜ r ≡ before self other ⌝ }
     {
