@@ -8,7 +8,7 @@ ghost use Rattle.io.specs.Digits.{glyph as Digits·glyph};
 use libc::STDOUT_FILENO;
 use rules::Cid;
 
-// The first bytes of the buffer go out; answers whether all of them did. What is written no contract can say.
+// The first bytes of the buffer go out; answers whether all of them did. io promises nothing of what it writes, so no more is promised here.
 pub fn flush(out: &[u8], at: usize) -> bool
     requires { ⌜ at ≤ length (now out) ⌝ }
 {
