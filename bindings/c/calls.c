@@ -308,13 +308,15 @@ static void listening(void) {
         tamburelvi_receiver_is_listening(r, 64214));
 }
 
-/* Step 3 without an address; 'Trial values', the last; 7 by arriving minus last; 1 and 15 before the poll. */
+/* Step 3 without an address; 'Trial values', the last; 21 and 7 by arriving minus last; 1 and 15 before the poll. */
 static void unsynchronised(void) {
     tamburelvi_data_packet d = data(0x11, 1, 0, 0, 2);
     values[1] = 255;
     show_release("data", take(1000, d));
     for (size_t i = 0; i < 37; i++) printf("%02x%s", out[i], i == 36 ? "\n" : " ");
     show("the same again", take(1023, d));
+    d.sequence = 255; /* 255 - 0 = -1 */
+    show("sequence 255", take(1023, d));
     d.sequence = 247; /* 247 - 0 = -9 */
     show("sequence 247", take(1023, d));
     d.sequence = 1;
@@ -348,6 +350,7 @@ static void synchronised(void) {
     show_release("synchronisation", take_sync(1200, 0x30, 7, 0, sizeof out));
     show("the same again", take_sync(1200, 0x30, 7, 0, sizeof out));
     show("the next", take_sync(1250, 0x30, 7, 1, sizeof out));
+    show("the first again", take_sync(1251, 0x30, 7, 0, sizeof out));
     show("address 99, not listened to", take_sync(1250, 0x30, 99, 0, sizeof out));
     show_waiting();
     show_pairs();
@@ -394,14 +397,15 @@ static void limit(void) {
     show_settings();
 }
 
-/* Age 2,499 is live, 2,500 expired; the data table is swept before the sync table; the packet of a step that gave 4 was not
- * taken. */
+/* Age 2,499 is live, 2,500 expired; a repeat renews nothing; the data table is swept before the sync table; the packet of a
+ * step that gave 4 was not taken. */
 static void timeouts(void) {
     show("reset", tamburelvi_receiver_reset_sources(r));
     show_pairs();
     show("announce timeouts", tamburelvi_receiver_set_announce_timeout(r, true));
     show("A at 10,000", take(10000, data(0x30, 1, 0, 0, 2)));
     show("poll at 12,499", tamburelvi_receiver_poll(r, 12499));
+    show("A again at 12,499", take(12499, data(0x30, 1, 0, 0, 2)));
     show("poll at 12,500", tamburelvi_receiver_poll(r, 12500));
     show("poll again", tamburelvi_receiver_poll(r, 12500));
     show("A at 15,000", take(15000, data(0x30, 1, 0, 0, 2)));
@@ -409,6 +413,7 @@ static void timeouts(void) {
     show("B again", take(17500, data(0x40, 1, 0, 0, 2)));
     show("synchronisation of A at 17,510", take_sync(17510, 0x30, 7, 0, sizeof out));
     show("a page of A at 20,000", take_page(20000, page(0x30, 0, 0, 4, 1)));
+    show("synchronisation of A again at 20,009", take_sync(20009, 0x30, 7, 0, sizeof out));
     show("synchronisation of B at 20,010", take_sync(20010, 0x40, 7, 0, sizeof out));
     show("synchronisation of B again", take_sync(20010, 0x40, 7, 0, sizeof out));
     show("A at 20,020", take(20020, data(0x30, 1, 0, 0, 2)));

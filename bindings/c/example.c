@@ -1,4 +1,4 @@
-/* A desk sends universe 1 once, then the same sequence number again, then stops. */
+/* A desk sends universe 1 once; the packet comes a second time, by another port, and then an older one; the desk stops. */
 #include "tamburelvi.h"
 #include <stdio.h>
 #include <string.h>
@@ -22,6 +22,8 @@ static void show(tamburelvi_answer answer) {
     switch (answer.number) {
     case TAMBURELVI_UNIVERSE_TIMEOUT: printf("  universe %zu\n", answer.first); break;
     case TAMBURELVI_OUT_OF_SEQUENCE: printf("  %zu after %zu\n", answer.first, answer.second); break;
+    /* No fault, and nothing to log: with two network ports each packet is heard twice. */
+    case TAMBURELVI_REPEATED: break;
     case TAMBURELVI_TOO_SHORT: printf("  %zu bytes are needed\n", answer.first); break;
     default: break;
     }
@@ -44,6 +46,8 @@ int main(void) {
     show(tamburelvi_receiver_set_announce_timeout(&receiver, true));
     show(tamburelvi_receiver_listen_universes(&receiver, universes, 1));
     show(tamburelvi_receiver_handle_data_packet(&receiver, 1000, &packet, out, sizeof out));
+    show(tamburelvi_receiver_handle_data_packet(&receiver, 1001, &packet, out, sizeof out));
+    packet.sequence = 255;
     show(tamburelvi_receiver_handle_data_packet(&receiver, 1023, &packet, out, sizeof out));
     show(tamburelvi_receiver_handle_data_packet(&receiver, 1023, &packet, out, 100));
     for (size_t i = 0; tamburelvi_receiver_data_pair(&receiver, i, &pair); i++) {

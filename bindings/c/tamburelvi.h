@@ -79,9 +79,13 @@ extern "C" {
 #define TAMBURELVI_CID 16
 
 /**
- * @brief What stopped a call. 17 to 252 are the library's too and not used yet; 253 to 255 are this header's.
+ * @brief What stopped a call. 17 to 20 and 22 to 252 are the library's too and not used yet; 253 to 255 are this header's.
  *
  * In parentheses: the values that an answer of this number has, by enum tamburelvi_kind.
+ *
+ * After 7 and 21 the packet was not taken, and nothing changed but what the poll swept. A repeat renews neither the sequence
+ * number nor the reading, so a source that only repeats itself expires. A node with two network ports hears each packet twice:
+ * 21 is then no fault and need not be logged, 7 is one.
  */
 enum tamburelvi_number {
     TAMBURELVI_OK = 0,                      /**< Nothing did. (A step: none or a release. clear_waiting_data: one, 1 or 0.) */
@@ -91,7 +95,7 @@ enum tamburelvi_number {
     TAMBURELVI_UNIVERSE_TIMEOUT = 4,        /**< Announced timeout; the packet was not taken, offer it again. (Pair.) */
     TAMBURELVI_UNIVERSE_TERMINATED = 5,     /**< Announced termination. (Pair.) */
     TAMBURELVI_SOURCES_EXCEEDED = 6,        /**< The source limit is reached. (One: the number of sources.) */
-    TAMBURELVI_OUT_OF_SEQUENCE = 7,         /**< Sequence number refused. (Sequence.) */
+    TAMBURELVI_OUT_OF_SEQUENCE = 7,         /**< Sequence number late: a difference of -19 to -1. (Sequence.) */
     TAMBURELVI_DMX_MERGE_ERROR = 8,         /**< Merge refused, the waiting data is gone. (None.) */
     TAMBURELVI_SOURCE_DISCOVERED = 9,       /**< Announced discovery. (Announced.) */
     TAMBURELVI_PAIRS_FULL = 10,             /**< 1,024 pairs held. (None.) */
@@ -101,6 +105,7 @@ enum tamburelvi_number {
     TAMBURELVI_LIMIT_ZERO = 14,             /**< A source limit of 0. (None.) */
     TAMBURELVI_TOO_SHORT = 15,              /**< Lent memory is too short. (One: the bytes needed.) */
     TAMBURELVI_SOURCE_WITHOUT_PAIRS = 16,   /**< A CID listed without pairs. No call leaves such a table. (None.) */
+    TAMBURELVI_REPEATED = 21,               /**< The last sequence number again: a difference of 0. (Sequence.) */
     TAMBURELVI_OVERLAP = 253,               /**< This header's: memories of the call overlap; it was not made. (None.) */
     TAMBURELVI_NOT_STARTED = 254,           /**< This header's: no tamburelvi_receiver_new; the call was not made. (None.) */
     TAMBURELVI_NULL = 255                   /**< This header's: a null pointer; the call was not made. (None.) */
@@ -468,7 +473,7 @@ tamburelvi_header tamburelvi_new(tamburelvi_listened_universes *heard);
  * @param values_length How many, at most TAMBURELVI_VALUES.
  * @param out Output. A release is in its first bytes; the rest is unchanged.
  * @param out_length Its bytes, TAMBURELVI_OUTPUT or more.
- * @return 0 with nothing or a release, or 1, 2, 4 to 8, 10 to 12, 15, 16.
+ * @return 0 with nothing or a release, or 1, 2, 4 to 8, 10 to 12, 15, 16, 21.
  */
 tamburelvi_reply tamburelvi_handle_data_packet(tamburelvi_header header, tamburelvi_pair_rows *data_pairs,
     tamburelvi_source_rows *data_sources, tamburelvi_pair_rows *sync_pairs, tamburelvi_source_rows *sync_sources,
@@ -498,7 +503,7 @@ tamburelvi_reply tamburelvi_handle_data_packet(tamburelvi_header header, tambure
  * @param packet The packet.
  * @param out Output. A release is in its first bytes; the rest is unchanged.
  * @param out_length Its bytes, TAMBURELVI_OUTPUT or more.
- * @return 0 with nothing or a release, or 4, 6, 7, 10, 15, 16.
+ * @return 0 with nothing or a release, or 4, 6, 7, 10, 15, 16, 21.
  */
 tamburelvi_reply tamburelvi_handle_sync_packet(tamburelvi_header header, tamburelvi_pair_rows *data_pairs,
     tamburelvi_source_rows *data_sources, tamburelvi_pair_rows *sync_pairs, tamburelvi_source_rows *sync_sources,
@@ -792,7 +797,7 @@ static inline const char *tamburelvi_number_text(unsigned number) {
     case TAMBURELVI_UNIVERSE_TIMEOUT: return "a source has timed out on a universe";
     case TAMBURELVI_UNIVERSE_TERMINATED: return "a source has terminated a universe";
     case TAMBURELVI_SOURCES_EXCEEDED: return "the source limit is reached";
-    case TAMBURELVI_OUT_OF_SEQUENCE: return "the sequence number is refused";
+    case TAMBURELVI_OUT_OF_SEQUENCE: return "the sequence number is late";
     case TAMBURELVI_DMX_MERGE_ERROR: return "the merge is refused";
     case TAMBURELVI_SOURCE_DISCOVERED: return "a source was discovered";
     case TAMBURELVI_PAIRS_FULL: return "1,024 pairs are held";
@@ -802,6 +807,7 @@ static inline const char *tamburelvi_number_text(unsigned number) {
     case TAMBURELVI_LIMIT_ZERO: return "a source limit of 0";
     case TAMBURELVI_TOO_SHORT: return "lent memory is too short";
     case TAMBURELVI_SOURCE_WITHOUT_PAIRS: return "a CID is listed without pairs";
+    case TAMBURELVI_REPEATED: return "the sequence number is a repeat of the last one";
     case TAMBURELVI_OVERLAP: return "memories of the call overlap";
     case TAMBURELVI_NOT_STARTED: return "the receiver was not started";
     case TAMBURELVI_NULL: return "a null pointer";
@@ -1099,7 +1105,7 @@ static inline tamburelvi_answer tamburelvi_receiver_new(tamburelvi_receiver *rec
  * @param packet The packet.
  * @param out Output. A release is in its first bytes (tamburelvi_records_of).
  * @param out_length Its bytes, TAMBURELVI_OUTPUT or more.
- * @return 0 with nothing or a release, or 1, 2, 4 to 8, 10 to 12, 15, 16, 253 to 255.
+ * @return 0 with nothing or a release, or 1, 2, 4 to 8, 10 to 12, 15, 16, 21, 253 to 255.
  */
 static inline tamburelvi_answer tamburelvi_receiver_handle_data_packet(
     tamburelvi_receiver *receiver, uint64_t reading, const tamburelvi_data_packet *packet, uint8_t *out, size_t out_length) {
@@ -1137,7 +1143,7 @@ static inline tamburelvi_answer tamburelvi_receiver_handle_data_packet(
  * @param packet The packet.
  * @param out Output. A release is in its first bytes (tamburelvi_records_of).
  * @param out_length Its bytes, TAMBURELVI_OUTPUT or more.
- * @return 0 with nothing or a release, or 4, 6, 7, 10, 15, 16, 253 to 255.
+ * @return 0 with nothing or a release, or 4, 6, 7, 10, 15, 16, 21, 253 to 255.
  */
 static inline tamburelvi_answer tamburelvi_receiver_handle_sync_packet(
     tamburelvi_receiver *receiver, uint64_t reading, const tamburelvi_sync_packet *packet, uint8_t *out, size_t out_length) {

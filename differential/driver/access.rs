@@ -261,8 +261,10 @@ fn print_answer(answer: Result<Done>, out: &mut impl Write) -> io::Result<()> {
         Err(SacnError::UniverseTimeout(cid, universe)) => pair(4, cid, universe, out)?,
         Err(SacnError::UniverseTerminated(cid, universe)) => pair(5, cid, universe, out)?,
         Err(SacnError::SourcesExceededError(count)) => write!(out, "6 {count}")?,
+        // Document 02, F-4: difference 0 is a repeat, which has the values of 7 and the number 21.
         Err(SacnError::OutOfSequence(arriving, last, difference)) => {
-            write!(out, "7 {arriving} {last} {difference}")?
+            let number = if difference == 0 { 21 } else { 7 };
+            write!(out, "{number} {arriving} {last} {difference}")?
         }
         Err(SacnError::DmxMergeError()) => write!(out, "8")?,
         Err(SacnError::SourceDiscovered(name)) => {

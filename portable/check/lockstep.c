@@ -1,6 +1,6 @@
 /* lockstep CALLS [SEED]: the proved library and the portable one (its symbols renamed to portable_..) side by side on random calls. After every call the
- * answers, the headers, all lent memory and the output are compared. Status 1 at the first difference, and where a number of 0 to 15 was not
- * reached, 16 was given or a function was not called.
+ * answers, the headers, all lent memory and the output are compared. Status 1 at the first difference, and where a number of 0 to 15 or 21
+ * was not reached, another was given or a function was not called.
  * With -DTRACE one library alone gets the calls, and a sum of all answers and headers, and of all lent memory and output after every 64th call, is
  * printed: for two machines that cannot run one program. */
 #include "tamburelvi.h"
@@ -41,6 +41,9 @@ static uint64_t below(uint64_t n) {
     return (state >> 11) % n;
 }
 static bool one_in(uint64_t n) { return below(n) == 0; }
+
+/* Whether random calls bring the number about. No call leaves a table that gives 16. */
+static bool given(int number) { return number < 16 || number == 21; }
 
 static void differ(const char *what) {
     printf("DIFFERENT: %s, call %lu\n", what, calls);
@@ -223,7 +226,8 @@ int main(int argc, char **argv) {
     }
     int status = 0;
     printf("%lu calls the same, with all memory after each; %lu records released\nby number:", calls, records);
-    for (int i = 0; i < 17; i++) printf(" %d: %lu", i, reached[i]);
+    for (int i = 0; i < 256; i++)
+        if (given(i) || reached[i]) printf(" %d: %lu", i, reached[i]);
     printf("\nby function:");
     for (int i = 0; i < functions; i++) printf(" %s %lu", names[i], called[i]);
     putchar('\n');
@@ -231,7 +235,7 @@ int main(int argc, char **argv) {
     printf("sum: %08lx%08lx\n", (unsigned long)(sum >> 32), (unsigned long)(sum & 0xFFFFFFFFu));
 #endif
     for (int i = 0; i < 256; i++)
-        if ((reached[i] == 0) == (i < 16)) printf("FAILED: number %d: %lu times\n", i, reached[i]), status = 1;
+        if ((reached[i] != 0) != given(i)) printf("FAILED: number %d: %lu times\n", i, reached[i]), status = 1;
     for (int i = 0; i < functions; i++)
         if (!called[i]) printf("FAILED: %s was not called\n", names[i]), status = 1;
     return status;

@@ -33,6 +33,7 @@
 //!
 //! - Use what was released before the next call: [`Records`] borrows the receiver's output, which the next step writes.
 //! - Take a [`Stop`] as an answer and go on. After [`Stop::UniverseTimeout`] (4) the packet was not taken: offer it again.
+//! - Log [`Stop::OutOfSequence`] (7), a late packet. [`Stop::Repeated`] (21) need not be logged: a node with two network ports hears each packet twice.
 //! - A data packet may have added its synchronisation address to what is listened to: join that group too.
 //!
 //! Beside the steps:

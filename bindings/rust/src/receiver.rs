@@ -73,8 +73,8 @@ impl Receiver {
     ///
     /// # Errors
     ///
-    /// 1 before all else; 4 of the poll, with which the packet was not taken; 5 of a termination that is announced; 6, 7 and 10 of the pair table; 2, 11, 12
-    /// and 8 of a packet with an address, which is to be listened to and to wait.
+    /// 1 before all else; 4 of the poll, with which the packet was not taken; 5 of a termination that is announced; 6, 7, 10 and 21 of the pair table; 2, 11,
+    /// 12 and 8 of a packet with an address, which is to be listened to and to wait.
     pub fn handle_data_packet(
         &mut self,
         reading: u64,
@@ -102,7 +102,7 @@ impl Receiver {
     ///
     /// # Errors
     ///
-    /// 4 of the poll, with which the packet was not taken; 6, 7 and 10 of the pair table.
+    /// 4 of the poll, with which the packet was not taken; 6, 7, 10 and 21 of the pair table.
     pub fn handle_sync_packet(
         &mut self,
         reading: u64,

@@ -3,10 +3,10 @@
 use crate::{Cid, ffi};
 use core::fmt::{self, Write as _};
 
-/// What stops a call, with the values that go with it: the numbers 1 to 16 of the receiver's table.
+/// What stops a call, with the values that go with it: the numbers 1 to 16 and 21 of the receiver's table.
 ///
-/// A stop is an answer, not a fault of the receiver, which goes on with the next call. 4, 5 and 9 are announcements that were asked for. Shown, a stop is a
-/// sentence that ends in its number.
+/// A stop is an answer, not a fault of the receiver, which goes on with the next call. 4, 5 and 9 are announcements that were asked for. A node with two
+/// network ports hears each packet twice: 21 is then no fault and need not be logged, 7 is one. Shown, a stop is a sentence that ends in its number.
 ///
 /// Later versions may have further numbers. A number that this version does not know never becomes a `Stop`: it is a bug, and the call panics and names it.
 ///
@@ -36,13 +36,13 @@ pub enum Stop {
     UniverseTerminated(Cid, u16),
     /// 6: the source limit is reached; the number of sources. The packet was not taken.
     SourcesExceeded(usize),
-    /// 7: the sequence number is refused. The packet was not taken.
+    /// 7: the sequence number is late. The packet was not taken, and nothing changed but what the poll swept.
     OutOfSequence {
         /// The packet's sequence number.
         arriving: u8,
         /// The last accepted one.
         last: u8,
-        /// The first minus the second, modulo 256 and read as signed: -19 to 0.
+        /// The first minus the second, modulo 256 and read as signed: -19 to -1.
         difference: i8,
     },
     /// 8: the merge with the data that waits for the universe is refused. Both are lost; the sequence number stays stored.
@@ -63,6 +63,16 @@ pub enum Stop {
     TooShort(usize),
     /// 16: a source is listed without pairs. No call leaves such a table, so no call gives it.
     SourceWithoutPairs,
+    /// 21: the last sequence number again. The packet was not taken, and nothing changed but what the poll swept. A repeat renews neither the sequence number
+    /// nor the reading, so a source that only repeats itself expires.
+    Repeated {
+        /// The packet's sequence number.
+        arriving: u8,
+        /// The last accepted one, which is the same.
+        last: u8,
+        /// The first minus the second: 0.
+        difference: i8,
+    },
 }
 
 impl Stop {
@@ -85,6 +95,7 @@ impl Stop {
             Stop::LimitZero => 14,
             Stop::TooShort(_) => 15,
             Stop::SourceWithoutPairs => 16,
+            Stop::Repeated { .. } => 21,
         }
     }
 }
@@ -109,7 +120,7 @@ impl fmt::Display for Stop {
                 difference,
             } => write!(
                 f,
-                "sequence number {arriving} is refused after {last}: the difference is {difference}"
+                "sequence number {arriving} is late after {last}: the difference is {difference}"
             ),
             Stop::DmxMergeError => write!(f, "the merge with the waiting data is refused"),
             Stop::SourceDiscovered(name) => write!(f, "source {name:?} is discovered"),
@@ -120,6 +131,10 @@ impl fmt::Display for Stop {
             Stop::LimitZero => write!(f, "the source limit cannot be 0"),
             Stop::TooShort(n) => write!(f, "the lent memory is too short: {n} bytes are needed"),
             Stop::SourceWithoutPairs => write!(f, "a source is listed without pairs"),
+            Stop::Repeated { arriving, .. } => write!(
+                f,
+                "sequence number {arriving} is a repeat: it is the last one accepted"
+            ),
         }?;
         write!(f, " (number {})", self.number())
     }
@@ -246,6 +261,11 @@ fn stop_of(a: &ffi::Answer, name: Option<&[u8]>) -> Stop {
         (14, ffi::NONE) => Stop::LimitZero,
         (15, ffi::ONE) => Stop::TooShort(a.first),
         (16, ffi::NONE) => Stop::SourceWithoutPairs,
+        (21, ffi::SEQUENCE) => Stop::Repeated {
+            arriving: narrow(a.first),
+            last: narrow(a.second),
+            difference: a.difference,
+        },
         (number, kind) => unknown(number, kind),
     }
 }
@@ -267,8 +287,11 @@ pub(crate) fn narrow<W: Copy + fmt::Display, N: TryFrom<W>>(wide: W) -> N {
 
 #[cfg(test)]
 mod tests {
+    extern crate std;
+
     use super::*;
-    use alloc::string::ToString as _;
+    use alloc::string::{String, ToString as _};
+    use std::panic::catch_unwind;
 
     fn answer(number: u8, values: u8) -> ffi::Answer {
         ffi::Answer {
@@ -282,13 +305,31 @@ mod tests {
         }
     }
 
-    // The kinds of values of the numbers from 1.
-    const KINDS: [u8; 16] = [1, 1, 1, 3, 3, 1, 4, 0, 5, 0, 0, 0, 0, 0, 1, 0];
+    // Every number but 0, with its kind of values.
+    const KINDS: [(u8, u8); 17] = [
+        (1, 1),
+        (2, 1),
+        (3, 1),
+        (4, 3),
+        (5, 3),
+        (6, 1),
+        (7, 4),
+        (8, 0),
+        (9, 5),
+        (10, 0),
+        (11, 0),
+        (12, 0),
+        (13, 0),
+        (14, 0),
+        (15, 1),
+        (16, 0),
+        (21, 4),
+    ];
 
     #[test]
     fn every_number_is_shown_as_itself() {
         assert_eq!(stopped(&answer(0, ffi::NONE), None), Ok(()));
-        for (number, kind) in (1..).zip(KINDS) {
+        for (number, kind) in KINDS {
             let stop = stopped(&answer(number, kind), Some(b"a desk")).unwrap_err();
             assert_eq!(stop.number(), number);
             let text = stop.to_string();
@@ -305,6 +346,21 @@ mod tests {
         let _ = stopped(&answer(17, ffi::NONE), None);
     }
 
+    // What lies between the numbers and just above them, also with the values of 7 and 21.
+    #[test]
+    fn every_number_between_is_a_bug() {
+        for number in [17, 18, 19, 20, 22] {
+            for kind in [ffi::NONE, ffi::SEQUENCE] {
+                let end = catch_unwind(|| stopped(&answer(number, kind), Some(b"a desk")));
+                let said = end.unwrap_err().downcast::<String>().unwrap();
+                let bug = alloc::format!(
+                    "a bug: libtamburelvi.a answered {number} with values of kind {kind},"
+                );
+                assert!(said.starts_with(&bug), "{said}");
+            }
+        }
+    }
+
     #[test]
     #[should_panic(expected = "a bug: libtamburelvi.a answered 255 with values of kind 1,")]
     fn the_last_unknown_number_is_a_bug() {
@@ -315,6 +371,12 @@ mod tests {
     #[should_panic(expected = "a bug: libtamburelvi.a answered 7 with values of kind 1,")]
     fn a_number_with_other_values_is_a_bug() {
         let _ = stopped(&answer(7, ffi::ONE), None);
+    }
+
+    #[test]
+    #[should_panic(expected = "a bug: libtamburelvi.a answered 21 with values of kind 0,")]
+    fn a_repeat_with_other_values_is_a_bug() {
+        let _ = stopped(&answer(21, ffi::NONE), None);
     }
 
     #[test]

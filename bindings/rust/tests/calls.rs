@@ -89,14 +89,26 @@ fn stops_have_their_number_and_values() {
         Stop::TooLong(514)
     );
     released(receiver.handle_data_packet(0, &packet(1, 1, 10, &[0])));
-    let refused = stop(receiver.handle_data_packet(0, &packet(1, 1, 247, &[0])));
+    let late = stop(receiver.handle_data_packet(0, &packet(1, 1, 247, &[0])));
     assert_eq!(
-        refused,
+        late,
         Stop::OutOfSequence {
             arriving: 247,
             last: 10,
             difference: -19
         }
+    );
+    let repeated = stop(receiver.handle_data_packet(0, &packet(1, 1, 10, &[0])));
+    assert_eq!(
+        (repeated, repeated.number()),
+        (
+            Stop::Repeated {
+                arriving: 10,
+                last: 10,
+                difference: 0
+            },
+            21
+        )
     );
     receiver.set_source_limit(Some(1)).unwrap();
     assert_eq!(

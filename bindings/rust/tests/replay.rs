@@ -71,6 +71,11 @@ fn said(stop: Stop) -> String {
             arriving,
             last,
             difference,
+        }
+        | Stop::Repeated {
+            arriving,
+            last,
+            difference,
         } => {
             format!("{number} {arriving} {last} {difference}")
         }

@@ -134,15 +134,22 @@ fn the_question_mark_works_for_every_call() {
     assert_eq!(
         said(with_data(&mut r, &data(1, 1, 5))),
         (
+            21,
+            "sequence number 5 is a repeat: it is the last one accepted (number 21)".into()
+        )
+    );
+    assert_eq!(
+        said(with_data(&mut r, &data(1, 1, 4))),
+        (
             7,
-            "sequence number 5 is refused after 5: the difference is 0 (number 7)".into()
+            "sequence number 4 is late after 5: the difference is -1 (number 7)".into()
         )
     );
     assert_eq!(
         said(with_sync(&mut r, &SYNC)),
         (
-            7,
-            "sequence number 0 is refused after 0: the difference is 0 (number 7)".into()
+            21,
+            "sequence number 0 is a repeat: it is the last one accepted (number 21)".into()
         )
     );
     assert_eq!(
@@ -178,10 +185,15 @@ fn the_question_mark_works_for_every_call() {
 fn every_stop_is_a_sentence_with_its_number() {
     let cid = Cid([0xab; 16]);
     let name = Name::try_from(&b"a desk"[..]).unwrap();
-    let refused = Stop::OutOfSequence {
+    let late = Stop::OutOfSequence {
         arriving: 247,
         last: 10,
         difference: -19,
+    };
+    let repeated = Stop::Repeated {
+        arriving: 10,
+        last: 10,
+        difference: 0,
     };
     let all = [
         (
@@ -206,8 +218,8 @@ fn every_stop_is_a_sentence_with_its_number() {
             "the source limit is reached: 3 sources (number 6)",
         ),
         (
-            refused,
-            "sequence number 247 is refused after 10: the difference is -19 (number 7)",
+            late,
+            "sequence number 247 is late after 10: the difference is -19 (number 7)",
         ),
         (
             Stop::DmxMergeError,
@@ -242,10 +254,16 @@ fn every_stop_is_a_sentence_with_its_number() {
             Stop::SourceWithoutPairs,
             "a source is listed without pairs (number 16)",
         ),
+        (
+            repeated,
+            "sequence number 10 is a repeat: it is the last one accepted (number 21)",
+        ),
     ];
-    for (number, (stop, text)) in (1..).zip(all) {
-        assert_eq!((stop.number(), stop.to_string().as_str()), (number, text));
+    for (stop, text) in all {
+        assert_eq!(stop.to_string(), text);
     }
+    let numbers = all.map(|(stop, _)| stop.number());
+    assert!(numbers.into_iter().eq((1..=16).chain([21])), "{numbers:?}");
     assert_eq!(
         Stop::SourcesExceeded(1).to_string(),
         "the source limit is reached: 1 source (number 6)"
@@ -256,7 +274,7 @@ fn every_stop_is_a_sentence_with_its_number() {
     );
 }
 
-/// 1 to 14 through the library; the last two cannot be given to this crate.
+/// 1 to 14 and 21 through the library; 15 and 16 cannot be given to this crate.
 #[test]
 fn every_number_that_can_be_given_is_given() {
     // 1, in the order name, list
@@ -299,13 +317,28 @@ fn every_number_that_can_be_given_is_given() {
     assert_eq!(r.mute_universe(0), Err(Stop::IllegalUniverse(0)));
     assert_eq!(r.mute_universe(5), Err(Stop::UniverseNotRegistered(5)));
     assert_eq!(r.set_source_limit(Some(0)), Err(Stop::LimitZero));
-    // 7, 6
-    let refused = Stop::OutOfSequence {
-        arriving: 237,
+    // 21, 7 at both ends, which change nothing; 6
+    let repeated = Stop::Repeated {
+        arriving: 0,
         last: 0,
-        difference: -19,
+        difference: 0,
     };
-    assert_eq!(stop(r.handle_data_packet(0, &data(1, 1, 237))), refused);
+    let late = |arriving, difference| Stop::OutOfSequence {
+        arriving,
+        last: 0,
+        difference,
+    };
+    let before = read(&r);
+    assert_eq!(stop(r.handle_data_packet(9, &data(1, 1, 0))), repeated);
+    assert_eq!(
+        stop(r.handle_data_packet(9, &data(1, 1, 255))),
+        late(255, -1)
+    );
+    assert_eq!(
+        stop(r.handle_data_packet(9, &data(1, 1, 237))),
+        late(237, -19)
+    );
+    assert_eq!(read(&r), before);
     r.set_source_limit(Some(1)).unwrap();
     assert_eq!(
         stop(r.handle_data_packet(0, &data(2, 1, 0))),
@@ -327,6 +360,19 @@ fn every_number_that_can_be_given_is_given() {
         stop(r.handle_sync_packet(2500, &SYNC)),
         Stop::UniverseTimeout(Cid([1; 16]), 1)
     );
+    // 21, 7 of synchronisation, which change nothing: what only repeats itself expires
+    let mut r = listening([7]);
+    let _ = r.handle_sync_packet(0, &SYNC).unwrap();
+    let before = read(&r);
+    assert_eq!(stop(r.handle_sync_packet(2499, &SYNC)), repeated);
+    let older = SyncPacket {
+        sequence: 255,
+        ..SYNC
+    };
+    assert_eq!(stop(r.handle_sync_packet(2499, &older)), late(255, -1));
+    assert_eq!(read(&r), before);
+    r.poll(2500).unwrap();
+    assert_eq!(r.sync_pairs().len(), 0);
     // 8
     let mut r = listening([1]);
     r.set_merge(Merge::HtpDmxMerge);
@@ -635,7 +681,7 @@ fn only_making_and_cloning_takes_memory() {
         r.handle_universe_discovery_packet(0, &page(1, 0, 0))
             .is_err()
     );
-    assert_eq!(stop(r.handle_data_packet(0, &waits(1, 1, 0))).number(), 7);
+    assert_eq!(stop(r.handle_data_packet(0, &waits(1, 1, 0))).number(), 21);
     assert_eq!(r.listed_sources().flat_map(|s| s.pages()).count(), 1);
     r.poll(9000).unwrap();
     r.remove_expired_sources(9000);

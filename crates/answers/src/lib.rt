@@ -41,6 +41,7 @@ pub fn stop_answer(a: Checked) -> StepAnswer
         Checked::OutOfSequence(a, l, d) => StepAnswer::OutOfSequence(a, l, d),
         Checked::PairsFull => StepAnswer::PairsFull,
         Checked::SourceWithoutPairs => StepAnswer::SourceWithoutPairs,
+        Checked::Repeated(a, l, d) => StepAnswer::Repeated(a, l, d),
     }
 }
 

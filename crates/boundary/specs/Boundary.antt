@@ -123,8 +123,8 @@ twoOf n a b = record { first = a; second = b; hi = 0; lo = 0; number = n; values
 abbrev pub pairOf : ℕ → Cid → ℕ → Answer
 pairOf n c u = record { first = u; second = 0; hi = c .hi; lo = c .lo; number = n; values = 3; difference = pos 0 }
 
-abbrev pub sequenceOf : ℕ → ℕ → ℤ → Answer
-sequenceOf a l d = record { first = a; second = l; hi = 0; lo = 0; number = 7; values = 4; difference = d }
+abbrev pub sequenceOf : ℕ → ℕ → ℕ → ℤ → Answer
+sequenceOf n a l d = record { first = a; second = l; hi = 0; lo = 0; number = n; values = 4; difference = d }
 
 abbrev pub discoveredOf : Answer
 discoveredOf = record { first = 0; second = 0; hi = 0; lo = 0; number = 9; values = 5; difference = pos 0 }
@@ -137,7 +137,7 @@ toldOf (says.IllegalUniverse u) = oneOf 2 u
 toldOf (says.UniverseTimeout c u) = pairOf 4 c u
 toldOf (says.UniverseTerminated c u) = pairOf 5 c u
 toldOf (says.SourcesExceeded n) = oneOf 6 n
-toldOf (says.OutOfSequence a l d) = sequenceOf a l d
+toldOf (says.OutOfSequence a l d) = sequenceOf 7 a l d
 toldOf says.DmxMergeError = bareOf 8
 toldOf says.SourceDiscovered = discoveredOf
 toldOf says.PairsFull = bareOf 10
@@ -146,6 +146,7 @@ toldOf says.WaitingFull = bareOf 12
 toldOf says.PagesFull = bareOf 13
 toldOf (says.TooShort n) = oneOf 15 n
 toldOf says.SourceWithoutPairs = bareOf 16
+toldOf (says.Repeated a l d) = sequenceOf 21 a l d
 
 abbrev pub polledOf : PollAnswer → Answer
 polledOf polling.Polled = bareOf 0

@@ -57,6 +57,7 @@ step-number says.WaitingFull = refl
 step-number says.PagesFull = refl
 step-number (says.TooShort n) = refl
 step-number says.SourceWithoutPairs = refl
+step-number (says.Repeated a l d) = refl
 
 pub step-values : (own : List ℕ) (a : StepAnswer) → valuesIn own (toldOf a) ≡ stepValues own a
 step-values own says.Nothing = refl
@@ -75,6 +76,7 @@ step-values own says.WaitingFull = refl
 step-values own says.PagesFull = refl
 step-values own (says.TooShort n) = refl
 step-values own says.SourceWithoutPairs = refl
+step-values own (says.Repeated a l d) = refl
 
 -- ── the further calls ──
 -- an answer that has the number and the values of the model's

@@ -293,15 +293,15 @@ fn pair(number: u8, cid: Cid, universe: u16) -> Answer
     }
 }
 
-fn out_of_sequence(arriving: u8, last: u8, difference: i8) -> Answer
-    ensures { λ r. ⌜ r ≡ sequenceOf arriving last difference ⌝ }
+fn sequenced(number: u8, arriving: u8, last: u8, difference: i8) -> Answer
+    ensures { λ r. ⌜ r ≡ sequenceOf number arriving last difference ⌝ }
 {
     Answer {
         first: arriving as usize,
         second: last as usize,
         hi: 0,
         lo: 0,
-        number: 7,
+        number: number,
         values: 4,
         difference: difference,
     }
@@ -332,7 +332,7 @@ pub fn told(a: StepAnswer) -> Answer
         StepAnswer::UniverseTimeout(c, u) => pair(4, c, u),
         StepAnswer::UniverseTerminated(c, u) => pair(5, c, u),
         StepAnswer::SourcesExceeded(n) => one(6, n),
-        StepAnswer::OutOfSequence(a, l, d) => out_of_sequence(a, l, d),
+        StepAnswer::OutOfSequence(a, l, d) => sequenced(7, a, l, d),
         StepAnswer::DmxMergeError => bare(8),
         StepAnswer::SourceDiscovered => discovered(),
         StepAnswer::PairsFull => bare(10),
@@ -341,6 +341,7 @@ pub fn told(a: StepAnswer) -> Answer
         StepAnswer::PagesFull => bare(13),
         StepAnswer::TooShort(n) => one(15, n),
         StepAnswer::SourceWithoutPairs => bare(16),
+        StepAnswer::Repeated(a, l, d) => sequenced(21, a, l, d),
     }
 }
 

@@ -9,16 +9,17 @@ use lib.Dec.{eqb}
 use lib.IntN.{ℤ, pos, negℤ}
 use lib.Signed.{leZ}
 use Rattle.rules.specs.Universe.{legal}
-use Rattle.rules.specs.Sequence.{difference, refused}
+use Rattle.rules.specs.Sequence.{difference, judged, numberOf}
 use Rattle.rules.specs.Age.{expired}
 use Rattle.merge.specs.declared.SourceCid.the-variants.{Of}
 use Rattle.merge.specs.Merge.{Dmx, htp-merge, mergeable, same-start, joined, blended, highest}
 
 -- what a row of the table says
 pub data Trial : Type 0 where
-  -- last, arriving, their difference: accepted or refused
+  -- last, arriving, their difference: accepted, repeated or late
   accepts : ℕ → ℕ → ℤ → Trial
-  refuses : ℕ → ℕ → ℤ → Trial
+  repeats : ℕ → ℕ → ℤ → Trial
+  lags : ℕ → ℕ → ℤ → Trial
   -- an age: live or expired
   live : ℕ → Trial
   lapsed : ℕ → Trial
@@ -57,9 +58,14 @@ unfoldable pub merged-values : Option Dmx → List ℕ → Bool
 merged-values none values = false
 merged-values (some d) values = equal-values (d .values) values
 
+-- the difference, and the number that the sequence rule gives for it
+unfoldable pub sequence-told : ℕ → ℕ → ℤ → ℕ → Bool
+sequence-told last arriving d n = equalZ (difference arriving last) d && eqb (numberOf (judged d)) n
+
 unfoldable pub holds : Trial → Bool
-holds (accepts last arriving d) = equalZ (difference arriving last) d && not (refused d)
-holds (refuses last arriving d) = equalZ (difference arriving last) d && refused d
+holds (accepts last arriving d) = sequence-told last arriving d 0
+holds (repeats last arriving d) = sequence-told last arriving d 21
+holds (lags last arriving d) = sequence-told last arriving d 7
 holds (live a) = not (expired a 0)
 holds (lapsed a) = expired a 0
 holds (legal-universe u) = legal u
@@ -80,10 +86,10 @@ trials =
     ∷ accepts 10 246 (minus 20)
     ∷ accepts 10 138 (minus 128)
     ∷ accepts 10 137 (pos 127)
-    ∷ refuses 10 10 (pos 0)
-    ∷ refuses 10 247 (minus 19)
+    ∷ repeats 10 10 (pos 0)
+    ∷ lags 10 247 (minus 19)
     ∷ accepts 255 0 (pos 1)
-    ∷ refuses 0 255 (minus 1)
+    ∷ lags 0 255 (minus 1)
     ∷ live 2499
     ∷ lapsed 2500
     ∷ legal-universe 63999
@@ -95,5 +101,5 @@ trials =
     ∷ []
 
 pub trial-values : all trials ≡ true
-unfolding equalZ equal-values merged-values htp-merge mergeable same-start joined blended highest holds all trials
+unfolding equalZ equal-values merged-values htp-merge mergeable same-start joined blended highest sequence-told holds all trials
 trial-values = refl

@@ -34,6 +34,7 @@ stepNumber says.WaitingFull = 12
 stepNumber says.PagesFull = 13
 stepNumber (says.TooShort n) = 15
 stepNumber says.SourceWithoutPairs = 16
+stepNumber (says.Repeated a l d) = 21
 
 -- the values of a step's answer; number 9 returns the name of the packet in hand
 abbrev pub stepValues : List ℕ → StepAnswer → List Value
@@ -53,6 +54,7 @@ stepValues own says.WaitingFull = []
 stepValues own says.PagesFull = []
 stepValues own (says.TooShort n) = number n ∷ []
 stepValues own says.SourceWithoutPairs = []
+stepValues own (says.Repeated a l d) = number a ∷ number l ∷ integer d ∷ []
 
 abbrev pub pollNumber : PollAnswer → ℕ
 pollNumber poll.Polled = 0

@@ -197,7 +197,18 @@ record Pinned : Type 0 where
       numbers settings.fresh
       ((0, data-packet (data-of 1 1 64000 100 0 (0 ∷ []))) ∷ (0, data-packet (data-of 1 1 64000 100 0 (0 ∷ []))) ∷ [])
       (listening-to (1 ∷ []))
-      ≡ 2 ∷ 7 ∷ []
+      ≡ 2 ∷ 21 ∷ []
+  -- document 02, F-4, in both tables: the number again is a repeat, the one before it late; neither renews the reading, so at 2,500 the source is new
+  data-repeats :
+      numbers settings.fresh
+      ((0, data-packet (data-of 1 1 0 100 10 (0 ∷ []))) ∷ (1, data-packet (data-of 1 1 0 100 10 (0 ∷ []))) ∷ (1, data-packet (data-of 1 1 0 100 9 (0 ∷ []))) ∷ (2499, data-packet (data-of 1 1 0 100 10 (0 ∷ []))) ∷ (2500, data-packet (data-of 1 1 0 100 10 (0 ∷ []))) ∷ [])
+      (listening-to (1 ∷ []))
+      ≡ 0 ∷ 21 ∷ 7 ∷ 21 ∷ 0 ∷ []
+  sync-repeats :
+      numbers settings.fresh
+      ((0, sync-packet (sync-of 1 1 10)) ∷ (1, sync-packet (sync-of 1 1 10)) ∷ (1, sync-packet (sync-of 1 1 9)) ∷ (2499, sync-packet (sync-of 1 1 10)) ∷ (2500, sync-packet (sync-of 1 1 10)) ∷ [])
+      (listening-to (1 ∷ []))
+      ≡ 0 ∷ 21 ∷ 7 ∷ 21 ∷ 0 ∷ []
   -- a refused merge gives 8 and loses both
   refused-merge :
       numbers highest-wins
@@ -274,6 +285,8 @@ pinned = record {
   waiting-outlives-end = refl;
   refused-leaves = refl;
   illegal-address = refl;
+  data-repeats = refl;
+  sync-repeats = refl;
   refused-merge = refl;
   announced-timeout = refl;
   three-pages = refl;

@@ -190,15 +190,15 @@ poll-kept S now s k =
 
 -- ── the packets ──
 -- either way of a test, and of an arrival
-cond-either {ℓ} : {A : Type 0} (P : A → Type ℓ) (b : Bool) (x y : A) → P x → P y → P (cond b x y)
+pub cond-either {ℓ} : {A : Type 0} (P : A → Type ℓ) (b : Bool) (x y : A) → P x → P y → P (cond b x y)
 cond-either P true x y p q = p
 cond-either P false x y p q = q
 
-if-accepted-either : (P : Outcome → Type 0) (a : Checked) (go stay : Outcome) → P go → P stay → P (if-accepted a go stay)
+pub if-accepted-either : (P : Outcome → Type 0) (a : Checked) (go stay : Outcome) → P go → P stay → P (if-accepted a go stay)
 unfolding if-accepted
 if-accepted-either P a go stay x y = cond-either P (pairs.accepted a) go stay x y
 
-heard-either : (P : Outcome → Type 0) (a : ListenAnswer) (go : Outcome) (s : State) → P go → ((w : StepAnswer) → P (outcome s w)) → P (heard a go s)
+pub heard-either : (P : Outcome → Type 0) (a : ListenAnswer) (go : Outcome) (s : State) → P go → ((w : StepAnswer) → P (outcome s w)) → P (heard a go s)
 unfolding heard
 heard-either P listening.Listening go s x y = x
 heard-either P (listening.IllegalUniverse u) go s x y = y _
@@ -288,7 +288,7 @@ step-kept m S now p s k =
     (λ n e. let q : step m S now p s .state ≡ s = unfold step in cc in subst Kept (sym q) k)
 
 -- ── the further calls ──
-polled-by-state : (r : State × Option pairs.Key) → polled-by r .0 ≡ r .0
+pub polled-by-state : (r : State × Option pairs.Key) → polled-by r .0 ≡ r .0
 unfolding polled-by
 polled-by-state (s, none) = refl
 polled-by-state (s, some k) = refl
@@ -330,7 +330,7 @@ call-kept (on-clear room u) s k =
 call-kept on-clear-all s k = unfold clear-all-call in waiting-anew s k [] waiting-laws.ordered-none
 call-kept on-reset s k = reset-kept s k
 
-run-from : (cs : List Call) (s : State) → Kept s → Kept (run cs s)
+pub run-from : (cs : List Call) (s : State) → Kept s → Kept (run cs s)
 unfolding run
 run-from [] s k = k
 run-from (c ∷ cs) s k = run-from cs (call c s) (call-kept c s k)

@@ -6,3 +6,4 @@ pub mod Calls
 pub mod Examples
 pub mod ListenExamples
 pub mod Invariant
+pub mod Repeats

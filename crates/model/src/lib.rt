@@ -16,7 +16,7 @@ pub enum StepAnswer {
     UniverseTerminated(Cid, u16),
     // 6: the number of sources.
     SourcesExceeded(usize),
-    // 7: arriving, last, difference.
+    // 7, late: arriving, last, difference.
     OutOfSequence(u8, u8, i8),
     // 8
     DmxMergeError,
@@ -34,6 +34,8 @@ pub enum StepAnswer {
     TooShort(usize),
     // 16
     SourceWithoutPairs,
+    // 21: arriving, last, difference.
+    Repeated(u8, u8, i8),
 }
 
 // A poll.

@@ -1,6 +1,6 @@
 -- What the returns of sweep and arrival come to: one law for each.
 -- Assumes nothing.
-use mathlib.Core.Path.{_≡_, ap, _∙_}
+use mathlib.Core.Path.{_≡_, refl, ap, _∙_}
 use mathlib.Core.Logic.{_≢_}
 use mathlib.Core.Bool.{true, false, not, _&&_}
 use mathlib.Core.Option.{none, some}
@@ -10,17 +10,16 @@ use native.Mathlib.Omega.{arith}
 use lib.Dec.{leb}
 use lib.ListN.{length}
 use borrow.Author.Tests.{lt-leb, le-leb}
-use Rattle.laws.specs.Cases.{split, clash, found}
+use Rattle.laws.specs.Cases.{split, clash}
 use Rattle.laws.specs.Table.{keep, find, store, Ascending, keep-all, find-key, store-known}
 use Rattle.rules.specs.declared.Cid.{Cid}
 use Rattle.rules.specs.Cid.{before, cid-order}
 use Rattle.rules.specs.Age.{expired}
-use Rattle.rules.specs.Sequence.{difference, refused}
 use Rattle.settings.specs.declared.SourceLimit.{SourceLimit}
 use Rattle.pairs.specs.declared.Pair.{Pair}
-use Rattle.pairs.specs.declared.Checked.the-variants.{Accepted, SourcesExceeded, OutOfSequence, PairsFull, SourceWithoutPairs}
-use Rattle.pairs.specs.Table.{keyOf, key-before, itself, Table, capacity, pairAt, has, listed, live, swept, unknown, full, sequence-stop, source-stop, reached, stop, recorded}
-use Rattle.pairs.specs.Laws.{stale}
+use Rattle.pairs.specs.declared.Checked.the-variants.{Accepted, SourcesExceeded, PairsFull, SourceWithoutPairs}
+use Rattle.pairs.specs.Table.{keyOf, key-before, itself, Table, capacity, pairAt, has, listed, live, swept, unknown, full, check-sequence, stopping, sequence-stop, source-stop, reached, stop, recorded, accepted}
+use Rattle.pairs.specs.Laws.{stale, refused-either}
 use Rattle.pair_rows.specs.View.{lonely}
 use Rattle.pair_tables.specs.View.{pair-stop}
 
@@ -81,23 +80,20 @@ module _ (p : Pair) (ps : List Pair) where
   unfolding pair-stop sequence-stop
   pair-new h g = let e = lt-leb capacity (length ps) g in cc
 
-  pub pair-refused : (q : Pair) → pairAt (keyOf p) ps ≡ some q → refused (difference (p .sequence) (q .sequence)) ≡ true
-      → pair-stop p ps ≡ some (OutOfSequence (p .sequence) (q .sequence) (difference (p .sequence) (q .sequence)))
+  -- a pair that is held: as the sequence rule answers
+  pub pair-known : (q : Pair) → pairAt (keyOf p) ps ≡ some q → pair-stop p ps ≡ stopping (check-sequence (p .sequence) (q .sequence))
   unfolding pair-stop sequence-stop
-  pair-refused q h g = cc
-
-  pub pair-known : (q : Pair) → pairAt (keyOf p) ps ≡ some q → refused (difference (p .sequence) (q .sequence)) ≡ false → pair-stop p ps ≡ none
-  unfolding pair-stop sequence-stop
-  pair-known q h g = cc
+  pair-known q h = rw h
 
   -- a stop is no acceptance
+  accepted-by-sequence : sequence-stop (p .sequence) (pairAt (keyOf p) ps) ≢ some Accepted
+  accepted-by-sequence e = clash refl (refused-either (λ a. accepted a ≡ false) (p .sequence) (pairAt (keyOf p) ps) Accepted e (λ x y z. refl) (λ x y z. refl))
+
   pub never-accepted : pair-stop p ps ≢ some Accepted
-  unfolding pair-stop sequence-stop
+  unfolding pair-stop
   never-accepted h =
       let z : _≡_ {A = ℕ} 0 1 =
       split (unknown (pairAt (keyOf p) ps) && leb capacity (length ps))
       (λ e. cc)
-      (λ e. found (pairAt (keyOf p) ps)
-      (λ n. cc)
-      (λ q n. split (refused (difference (p .sequence) (q .sequence))) (λ r. cc) (λ r. cc))) in
+      (λ e. absurd (accepted-by-sequence (cc))) in
       absurd (omega arith)

@@ -38,14 +38,13 @@ use pair_sweeps::note;
 use pairs::Checked;
 use pairs::Pair;
 use pairs::SweepAnswer;
+use pairs::check_sequence;
 use pairs::is_accepted;
 use pairs::is_reached;
 use rules::Cid;
 use rules::DataSequence;
 use rules::SyncSequence;
 use rules::is_expired;
-use rules::is_sequence_refused;
-use rules::sequence_difference;
 use settings::SourceLimit;
 
 // What a table says of its lent rows: how many pairs and sources are in use, a reading that no pair is older than, and whether each listed CID is
@@ -325,12 +324,8 @@ impl PairTable {
         ensures { λ r. ⌜ Judged pair (pairsOf (self .count) (now (pairs .entry))) r ⌝ }
     {
         let row = pairs[at];
-        let last = pair_of(row);
-        let difference = sequence_difference(pair.sequence, last.sequence);
-        if is_sequence_refused(difference) {
-            return Checked::OutOfSequence(pair.sequence, last.sequence, difference);
-        }
-        Checked::Accepted
+        let held = pair_of(row);
+        check_sequence(pair.sequence, held.sequence)
     }
 
     // A pair takes the place of the one with its key.

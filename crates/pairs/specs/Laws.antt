@@ -1,14 +1,15 @@
 -- Laws of pair tables, over the definitions alone: what each call keeps, what is found after it, and which calls may change places.
 -- Assumes nothing.
-use mathlib.Core.Path.{_≡_, refl, sym, ap, _∙_}
+use mathlib.Core.Path.{_≡_, refl, sym, ap, _∙_, subst}
 use mathlib.Core.Logic.{_≢_}
 use mathlib.Core.Bool.{Bool, true, false, not, cond, _&&_}
 use mathlib.Core.Option.{Option, none, some}
 use mathlib.Core.List.{List, [], _∷_}
 use Prim.Native.Nat.{ℕ, _≤_, _-_}
 use native.Mathlib.Omega.{arith}
-use lib.Dec.{leb}
+use lib.Dec.{leb, eqb}
 use lib.ListN.{length}
+use lib.IntN.{ℤ}
 use borrow.Author.Tests.{leb-false, lt-leb}
 use Rattle.laws.specs.Cases.{split, clash, found, missing}
 use Rattle.laws.specs.Order.{tri, keyed}
@@ -18,13 +19,17 @@ use Rattle.laws.specs.Table.{ascending-store, ascending-keep, ascending-remove,
 use Rattle.rules.specs.declared.Cid.{Cid}
 use Rattle.rules.specs.Cid.{same, before, cid-order, same-refl, same-path, same-not}
 use Rattle.rules.specs.Age.{expired}
-use Rattle.rules.specs.Sequence.{difference, refused}
+use Rattle.rules.specs.declared.SequenceAnswer.{SequenceAnswer}
+use Rattle.rules.specs.declared.SequenceAnswer.the-variants as sequence
+use Rattle.rules.specs.Sequence.{difference, judged}
+use Rattle.rules.specs.Sequence as rule
+use Rattle.rules.specs.Answer.{number, integer}
 use Rattle.settings.specs.declared.SourceLimit.{SourceLimit}
 use Rattle.pairs.specs.declared.Pair.{Pair}
 use Rattle.pairs.specs.declared.Checked.{Checked}
-use Rattle.pairs.specs.declared.Checked.the-variants.{Accepted, UniverseTimeout, SourcesExceeded, OutOfSequence, PairsFull, SourceWithoutPairs}
+use Rattle.pairs.specs.declared.Checked.the-variants.{Accepted, UniverseTimeout, SourcesExceeded, OutOfSequence, PairsFull, SourceWithoutPairs, Repeated}
 use Rattle.pairs.specs.Table.{last-noted, Key, keyOf, key-before, key-order, itself, Table, capacity, empty, pairAt, has, listed, leave, without, live, swept, lowest, noted, told, sweep}
-use Rattle.pairs.specs.Table.{recorded, reached, source-stop, unknown, full, sequence-stop, stop, settle, admit, after-sweep, check, accepted, Ordered}
+use Rattle.pairs.specs.Table.{recorded, reached, source-stop, unknown, full, told-as, stopping, sequence-stop, stop, settle, admit, after-sweep, check, numberOf, valuesOf, accepted, Ordered}
 
 -- ── only one answer is accepted ──
 pub accepted-is : (a : Checked) → accepted a ≡ true → a ≡ Accepted
@@ -34,6 +39,38 @@ accepted-is (SourcesExceeded n) e = let z : _≡_ {A = ℕ} 0 1 = cc in absurd (
 accepted-is (OutOfSequence a l d) e = let z : _≡_ {A = ℕ} 0 1 = cc in absurd (omega arith)
 accepted-is PairsFull e = let z : _≡_ {A = ℕ} 0 1 = cc in absurd (omega arith)
 accepted-is SourceWithoutPairs e = let z : _≡_ {A = ℕ} 0 1 = cc in absurd (omega arith)
+accepted-is (Repeated a l d) e = let z : _≡_ {A = ℕ} 0 1 = cc in absurd (omega arith)
+
+-- ── the sequence rule ──
+-- by its answers
+pub judged-either {ℓ} : {C : Type ℓ} (a : SequenceAnswer) → (a ≡ sequence.Accepted → C) → (a ≡ sequence.Repeated → C) → (a ≡ sequence.Late → C) → C
+judged-either sequence.Accepted f g h = f refl
+judged-either sequence.Repeated f g h = g refl
+judged-either sequence.Late f g h = h refl
+
+-- what it answers has the rule's number; refused, it has the values arriving, last and difference
+pub told-number : (arriving last : ℕ) (d : ℤ) (a : SequenceAnswer) → numberOf (told-as arriving last d a) ≡ rule.numberOf a
+told-number arriving last d sequence.Accepted = refl
+told-number arriving last d sequence.Repeated = refl
+told-number arriving last d sequence.Late = refl
+
+pub told-values : (arriving last : ℕ) (d : ℤ) (a : SequenceAnswer) → rule.refuses a ≡ true → valuesOf (told-as arriving last d a) ≡ number arriving ∷ number last ∷ integer d ∷ []
+told-values arriving last d sequence.Accepted h = clash h refl
+told-values arriving last d sequence.Repeated h = refl
+told-values arriving last d sequence.Late h = refl
+
+-- it stops an arrival with 7 or 21, and with nothing else
+pub refused-either {ℓ} : (P : Checked → Type ℓ) (n : ℕ) (o : Option Pair) (a : Checked) → sequence-stop n o ≡ some a
+    → ((x y : ℕ) (z : ℤ) → P (OutOfSequence x y z)) → ((x y : ℕ) (z : ℤ) → P (Repeated x y z)) → P a
+unfolding sequence-stop
+refused-either P n none a e late repeat = missing a e refl
+refused-either P n (some q) a e late repeat =
+    let l = q .sequence in
+    let d = difference n l in
+    judged-either (judged d)
+    (λ h. missing a e (ap (λ (x : SequenceAnswer). stopping (told-as n l d x)) h))
+    (λ h. let g : Repeated n l d ≡ a = cc in subst P g (repeat n l d))
+    (λ h. let g : OutOfSequence n l d ≡ a = cc in subst P g (late n l d))
 
 -- ── keys that differ ──
 pub key-apart : (j k : Key) → j .cid ≢ k .cid → j ≢ k
@@ -488,24 +525,19 @@ full-good p t g =
     (λ x n. let f = has-found (keyOf p) x (t .pairs) n in cc)
 
 -- 16 is never given there
+never-16-by-sequence : (n : ℕ) (o : Option Pair) → sequence-stop n o ≢ some SourceWithoutPairs
+never-16-by-sequence n o e = clash refl (refused-either (λ a. eqb (numberOf a) 16 ≡ false) n o SourceWithoutPairs e (λ x y z. refl) (λ x y z. refl))
+
 pub never-stopped-16 : (limit : SourceLimit) (p : Pair) (t : Table) → GoodTable t → stop limit p t ≢ some SourceWithoutPairs
-unfolding stop sequence-stop
+unfolding stop
 never-stopped-16 limit p t g h =
     let s = source-stop-good limit (p .cid) t g in
     let z : _≡_ {A = ℕ} 0 1 =
     split (has (t .pairs) (p .cid))
-    (λ e. split (full p t)
-    (λ f. cc)
-    (λ f. found (pairAt (keyOf p) (t .pairs))
-    (λ n. cc)
-    (λ x n. split (refused (difference (p .sequence) (x .sequence))) (λ w. cc) (λ w. cc))))
+    (λ e. split (full p t) (λ f. cc) (λ f. absurd (never-16-by-sequence (p .sequence) (pairAt (keyOf p) (t .pairs)) (cc))))
     (λ e. split (reached limit (length (t .sources)))
     (λ r. cc)
-    (λ r. split (full p t)
-    (λ f. cc)
-    (λ f. found (pairAt (keyOf p) (t .pairs))
-    (λ n. cc)
-    (λ x n. split (refused (difference (p .sequence) (x .sequence))) (λ w. cc) (λ w. cc))))) in
+    (λ r. split (full p t) (λ f. cc) (λ f. absurd (never-16-by-sequence (p .sequence) (pairAt (keyOf p) (t .pairs)) (cc))))) in
     absurd (omega arith)
 
 pub never-16 : (limit : SourceLimit) (announce : Bool) (p : Pair) (t : Table) → GoodTable t → check limit announce p t .1 ≢ SourceWithoutPairs

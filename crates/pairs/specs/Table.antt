@@ -7,18 +7,21 @@ use mathlib.Core.List.{List, [], _∷_}
 use Prim.Native.Nat.{ℕ, _≤_}
 use lib.Dec.{ltb, leb}
 use lib.ListN.{length}
+use lib.IntN.{ℤ}
 use Rattle.laws.specs.Order.{Order, ℕ-order, before-by, order-by}
 use Rattle.laws.specs.Table.{keep, any, find, store, remove, Ascending}
 use Rattle.rules.specs.declared.Cid.{Cid}
 use Rattle.rules.specs.Cid.{same, before, cid-order}
 use Rattle.rules.specs.Age.{expired}
-use Rattle.rules.specs.Sequence.{difference, refused}
+use Rattle.rules.specs.declared.SequenceAnswer.{SequenceAnswer}
+use Rattle.rules.specs.declared.SequenceAnswer.the-variants as sequence
+use Rattle.rules.specs.Sequence.{difference, judged}
 use Rattle.rules.specs.Answer.{Value, number, integer, source, first-of}
 use Rattle.settings.specs.declared.SourceLimit.{SourceLimit}
 use Rattle.settings.specs.declared.SourceLimit.the-variants.{Unlimited, AtMost}
 use Rattle.pairs.specs.declared.Pair.{Pair}
 use Rattle.pairs.specs.declared.Checked.{Checked}
-use Rattle.pairs.specs.declared.Checked.the-variants.{Accepted, UniverseTimeout, SourcesExceeded, OutOfSequence, PairsFull, SourceWithoutPairs}
+use Rattle.pairs.specs.declared.Checked.the-variants.{Accepted, UniverseTimeout, SourcesExceeded, OutOfSequence, PairsFull, SourceWithoutPairs, Repeated}
 
 -- "A pair is a CID and a universe or address"
 pub record Key : Type 0 where
@@ -126,6 +129,19 @@ recorded p t = record {
   sources = store before itself (p .cid) (t .sources);
 }
 
+-- ── what stops an arrival: every answer but `Accepted` ──
+abbrev pub accepted : Checked → Bool
+accepted Accepted = true
+accepted (UniverseTimeout c u) = false
+accepted (SourcesExceeded n) = false
+accepted (OutOfSequence a l d) = false
+accepted PairsFull = false
+accepted SourceWithoutPairs = false
+accepted (Repeated a l d) = false
+
+abbrev pub stopping : Checked → Option Checked
+stopping a = cond (accepted a) none (some a)
+
 -- ── 2. "CID not listed and the number of listed CIDs at the limit: 6. CID listed without any pair: 16." ──
 abbrev pub reached : SourceLimit → ℕ → Bool
 reached Unlimited n = false
@@ -147,11 +163,20 @@ full p t =
     unknown (pairAt (keyOf p) (t .pairs)) && leb capacity (length (t .pairs))
     || not (listed (p .cid) (t .sources)) && leb capacity (length (t .sources))
 
--- ── 4. "Known pair, refused difference: 7. An unknown pair is always accepted." ──
+-- ── 4. "Known pair, refused difference: 7. An unknown pair is always accepted." Document 02, F-4: "21 for a repeat, with the values and the
+-- place of 7, which keeps the rest" ──
+abbrev pub told-as : ℕ → ℕ → ℤ → SequenceAnswer → Checked
+told-as arriving last d sequence.Accepted = Accepted
+told-as arriving last d sequence.Repeated = Repeated arriving last d
+told-as arriving last d sequence.Late = OutOfSequence arriving last d
+
+-- what the sequence rule answers of two numbers
+abbrev pub check-sequence : ℕ → ℕ → Checked
+check-sequence arriving last = told-as arriving last (difference arriving last) (judged (difference arriving last))
+
 unfoldable pub sequence-stop : ℕ → Option Pair → Option Checked
 sequence-stop arriving none = none
-sequence-stop arriving (some q) =
-    cond (refused (difference arriving (q .sequence))) (some (OutOfSequence arriving (q .sequence) (difference arriving (q .sequence)))) none
+sequence-stop arriving (some q) = stopping (check-sequence arriving (q .sequence))
 
 -- what stops an arrival after the sweep, in the order of rules 2 to 4
 unfoldable pub stop : SourceLimit → Pair → Table → Option Checked
@@ -184,6 +209,7 @@ numberOf (SourcesExceeded n) = 6
 numberOf (OutOfSequence a l d) = 7
 numberOf PairsFull = 10
 numberOf SourceWithoutPairs = 16
+numberOf (Repeated a l d) = 21
 
 abbrev pub valuesOf : Checked → List Value
 valuesOf Accepted = []
@@ -192,15 +218,7 @@ valuesOf (SourcesExceeded n) = number n ∷ []
 valuesOf (OutOfSequence a l d) = number a ∷ number l ∷ integer d ∷ []
 valuesOf PairsFull = []
 valuesOf SourceWithoutPairs = []
-
--- nothing stopped the arrival
-abbrev pub accepted : Checked → Bool
-accepted Accepted = true
-accepted (UniverseTimeout c u) = false
-accepted (SourcesExceeded n) = false
-accepted (OutOfSequence a l d) = false
-accepted PairsFull = false
-accepted SourceWithoutPairs = false
+valuesOf (Repeated a l d) = number a ∷ number l ∷ integer d ∷ []
 
 -- ── what may be presupposed: "tables in their order and within their counts" ──
 pub record Ordered (t : Table) : Type 0 where

@@ -1,7 +1,11 @@
 // Document 01, 'Pair tables': what a pair and the answers are. What a table of pairs is, and what each call makes of it, is said in specs/Table.antt.
 ghost use mathlib.Core.Path.{_≡_};
-ghost use Rattle.pairs.specs.Table.{reached, accepted};
+ghost use Rattle.rules.specs.Sequence.{difference, number-at};
+ghost use Rattle.pairs.specs.Table.{reached, check-sequence, accepted, numberOf};
 use rules::Cid;
+use rules::SequenceAnswer;
+use rules::sequence_answer;
+use rules::sequence_difference;
 use settings::SourceLimit;
 
 // A pair with what its last arrival left.
@@ -19,12 +23,14 @@ pub enum Checked {
     UniverseTimeout(Cid, u16),
     // Number 6.
     SourcesExceeded(usize),
-    // Number 7: arriving, last, difference.
+    // Number 7, late: arriving, last, difference.
     OutOfSequence(u8, u8, i8),
     // Number 10.
     PairsFull,
     // Number 16.
     SourceWithoutPairs,
+    // Number 21: arriving, last, difference.
+    Repeated(u8, u8, i8),
 }
 
 // What a sweep answers.
@@ -44,6 +50,19 @@ pub fn is_reached(limit: SourceLimit, n: usize) -> bool
     }
 }
 
+// Rule 4 for a pair that is held: what the sequence rule answers of the arriving number and the last.
+pub fn check_sequence(arriving: u8, last: u8) -> Checked
+    ensures { λ r. ⌜ r ≡ check-sequence arriving last ⌝ }
+    ensures told { λ r. ⌜ numberOf r ≡ number-at (difference arriving last) ⌝ }
+{
+    let difference = sequence_difference(arriving, last);
+    match sequence_answer(difference) {
+        SequenceAnswer::Accepted => Checked::Accepted,
+        SequenceAnswer::Repeated => Checked::Repeated(arriving, last, difference),
+        SequenceAnswer::Late => Checked::OutOfSequence(arriving, last, difference),
+    }
+}
+
 // Nothing stopped the arrival.
 pub fn is_accepted(answer: Checked) -> bool
     ensures { λ r. ⌜ r ≡ accepted answer ⌝ }
@@ -55,5 +74,6 @@ pub fn is_accepted(answer: Checked) -> bool
         Checked::OutOfSequence(_, _, _) => false,
         Checked::PairsFull => false,
         Checked::SourceWithoutPairs => false,
+        Checked::Repeated(_, _, _) => false,
     }
 }

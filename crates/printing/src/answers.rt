@@ -75,19 +75,20 @@ fn put_pair(out: &mut [u8], at: usize, n: u64, cid: Cid, universe: u16) -> usize
     put_number(&mut *out, e, universe as u64)
 }
 
-// 7 with the arriving number, the last and the difference.
-fn put_sequence(out: &mut [u8], at: usize, arriving: u8, last: u8, difference: i8) -> usize
+// A number with the arriving sequence number, the last and the difference.
+fn put_sequence(out: &mut [u8], at: usize, n: u64, arriving: u8, last: u8, difference: i8) -> usize
     requires { ⌜ Ready at (now out) ⌝ }
-    ensures { λ r. ⌜ Tells (answerLine 7 (number arriving ∷ number last ∷ integer difference ∷ [])) (now (out .entry)) at
+    ensures { λ r. ⌜ Tells (answerLine n (number arriving ∷ number last ∷ integer difference ∷ [])) (now (out .entry)) at
         (now (out .exit)) r ⌝ }
 {
-    let a = put_text(&mut *out, at, b"7 ");
-    let b = put_decimal(&mut *out, a, arriving as u64);
-    let d = put(&mut *out, b, 32);
-    let e = put_decimal(&mut *out, d, last as u64);
-    let f = put(&mut *out, e, 32);
-    let g = put_signed(&mut *out, f, difference);
-    put(&mut *out, g, 10)
+    let a = put_decimal(&mut *out, at, n);
+    let b = put(&mut *out, a, 32);
+    let d = put_decimal(&mut *out, b, arriving as u64);
+    let e = put(&mut *out, d, 32);
+    let f = put_decimal(&mut *out, e, last as u64);
+    let g = put(&mut *out, f, 32);
+    let h = put_signed(&mut *out, g, difference);
+    put(&mut *out, h, 10)
 }
 
 // 9 with the packet's name.
@@ -127,7 +128,7 @@ pub fn put_step(out: &mut [u8], at: usize, answer: StepAnswer, own: &[u8], relea
         StepAnswer::UniverseTimeout(c, u) => put_pair(out, at, 4, c, u),
         StepAnswer::UniverseTerminated(c, u) => put_pair(out, at, 5, c, u),
         StepAnswer::SourcesExceeded(n) => put_value(out, at, 6, n as u64),
-        StepAnswer::OutOfSequence(a, l, d) => put_sequence(out, at, a, l, d),
+        StepAnswer::OutOfSequence(a, l, d) => put_sequence(out, at, 7, a, l, d),
         StepAnswer::DmxMergeError => put_number(out, at, 8),
         StepAnswer::SourceDiscovered => put_discovered(out, at, own),
         StepAnswer::PairsFull => put_number(out, at, 10),
@@ -136,6 +137,7 @@ pub fn put_step(out: &mut [u8], at: usize, answer: StepAnswer, own: &[u8], relea
         StepAnswer::PagesFull => put_number(out, at, 13),
         StepAnswer::TooShort(n) => put_value(out, at, 15, n as u64),
         StepAnswer::SourceWithoutPairs => put_number(out, at, 16),
+        StepAnswer::Repeated(a, l, d) => put_sequence(out, at, 21, a, l, d),
     }
 }
 

@@ -9,15 +9,13 @@ use Prim.Native.Nat.{ℕ, suc, _≤_, _<_}
 use native.Mathlib.Omega.{arith}
 use lib.Dec.{ltb, leb, eqb}
 use lib.ListN.{length}
-use lib.IntN.{ℤ}
 use borrow.Author.Tests.{eqb-true, eqb-false, le-ltb, lt-leb}
-use Rattle.laws.specs.Cases.{split, found, clash, missing}
+use Rattle.laws.specs.Cases.{split, found, clash}
 use Rattle.laws.specs.Order.{ℕ-order, tri, keyed, Order}
 use Rattle.laws.specs.Table.{find, store, Ascending, find-key, store-known, find-under, under-trans, find-store-same, find-store-other, ascending-store, length-store-new}
 use Rattle.rules.specs.declared.Cid.{Cid}
 use Rattle.rules.specs.Cid.{same, before, cid-order, same-path}
 use Rattle.rules.specs.Universe.{legal}
-use Rattle.rules.specs.Sequence.{difference, refused}
 use Rattle.settings.specs.declared.Settings.{Settings}
 use Rattle.settings.specs.declared.MergeChoice.the-variants.{HtpDmxMerge}
 use Rattle.settings.specs.declared.SourceLimit.{SourceLimit}
@@ -27,7 +25,7 @@ use Rattle.pairs.specs.declared.Checked.{Checked}
 use Rattle.pairs.specs.declared.Checked.the-variants as checked
 use Rattle.pairs.specs.Table as pairs
 use Rattle.pairs.specs.Table.{Table, Key, key, keyOf, pairAt, has, recorded, without, source-stop, full, sequence-stop, stop, settle, admit, check, sweep, swept, reached}
-use Rattle.pairs.specs.Laws.{GoodTable, source-stop-good, check-quiet, swept-quiet, cids, find-cids, ascending-cids, has-keep, has-store, has-remove, without-pairs, swept-swept}
+use Rattle.pairs.specs.Laws.{GoodTable, refused-either, source-stop-good, check-quiet, swept-quiet, cids, find-cids, ascending-cids, has-keep, has-store, has-remove, without-pairs, swept-swept}
 use Rattle.merge.specs.Merge.{Dmx}
 use Rattle.waiting.specs.declared.StoreAnswer.{StoreAnswer}
 use Rattle.waiting.specs.declared.StoreAnswer.the-variants as storing
@@ -78,18 +76,6 @@ check-agree : (limit : SourceLimit) (announce : Bool) (p : Pair) (t : Table) →
 unfolding admit
 check-agree limit announce p t off e =
     check-quiet limit announce p t t (rw off (swept-quiet (p .reading) t ∙ ap (λ (u : Table). (u, none)) e))
-
--- a refused sequence is the only stop that is left
-refusal {ℓ} : (P : Checked → Type ℓ) (n : ℕ) (o : Option Pair) (a : Checked) → sequence-stop n o ≡ some a
-    → ((x y : ℕ) (z : ℤ) → P (checked.OutOfSequence x y z)) → P a
-unfolding sequence-stop
-refusal P n none a e f = missing a e refl
-refusal P n (some q) a e f =
-    split (refused (difference n (q .sequence)))
-    (λ h.
-    let g : checked.OutOfSequence n (q .sequence) (difference n (q .sequence)) ≡ a = cc in
-    subst P g (f n (q .sequence) (difference n (q .sequence))))
-    (λ h. missing a e (rw h))
 
 -- ── an effect that only answers ──
 apply-only : (a : StepAnswer) (s : State) → apply (only a) s ≡ s
@@ -189,11 +175,11 @@ sync-not-full now y s o n e = let y : true ≡ false = rw e at n in let z : _≡
 -- a refused sequence leaves all
 data-refused : (S : Settings) (now : ℕ) (d : DataPacket) (s : State) (o : Option Pair) (a : Checked) → sequence-stop (d .sequence) o ≡ some a
     → out (data-after S now d s (s .data-pairs, a)) ≡ (s, say (model.stopped a))
-data-refused S now d s o a e = refusal (λ x. out (data-after S now d s (s .data-pairs, x)) ≡ (s, say (model.stopped x))) (d .sequence) o a e (λ x y z. unfold data-after model.if-accepted in refl)
+data-refused S now d s o a e = refused-either (λ x. out (data-after S now d s (s .data-pairs, x)) ≡ (s, say (model.stopped x))) (d .sequence) o a e (λ x y z. unfold data-after model.if-accepted in refl) (λ x y z. unfold data-after model.if-accepted in refl)
 
 sync-refused : (now : ℕ) (y : SyncPacket) (s : State) (o : Option Pair) (a : Checked) → sequence-stop (y .sequence) o ≡ some a
     → out (sync-after now y s (s .sync-pairs, a)) ≡ (s, say (model.stopped a))
-sync-refused now y s o a e = refusal (λ x. out (sync-after now y s (s .sync-pairs, x)) ≡ (s, say (model.stopped x))) (y .sequence) o a e (λ x y z. unfold sync-after model.if-accepted in refl)
+sync-refused now y s o a e = refused-either (λ x. out (sync-after now y s (s .sync-pairs, x)) ≡ (s, say (model.stopped x))) (y .sequence) o a e (λ x y z. unfold sync-after model.if-accepted in refl) (λ x y z. unfold sync-after model.if-accepted in refl)
 
 -- ── a synchronisation packet of address 0 ──
 -- it is not taken, since 0 is illegal and so never listened to

@@ -57,6 +57,7 @@ frank-stopped (checked.SourcesExceeded n) = refl
 frank-stopped (checked.OutOfSequence a l d) = refl
 frank-stopped checked.PairsFull = refl
 frank-stopped checked.SourceWithoutPairs = refl
+frank-stopped (checked.Repeated a l d) = refl
 
 frank-kept : (a : StoreAnswer) → byte-length (kept a) ≡ 0
 frank-kept storing.Stored = refl
@@ -203,6 +204,7 @@ stop-silent says.WaitingFull n = refl
 stop-silent says.PagesFull n = refl
 stop-silent (says.TooShort k) n = refl
 stop-silent says.SourceWithoutPairs n = refl
+stop-silent (says.Repeated a l d) n = refl
 
 pub silent-output : {S : Settings} (h : Handling S) → byte-length (h .answer) ≡ 0 → h .out′ ≡ h .out
 silent-output h e = h .contract .written ∙ ap (λ (b : List ℕ). over b (h .out)) (nil (records (h .contract .released)) (sym (named-length h) ∙ e))

@@ -4,7 +4,7 @@ ghost use Prim.Native.Nat.{ℕ, _-_};
 ghost use mathlib.Core.List.{[], _∷_};
 ghost use lib.IntN.{natAbs};
 ghost use Rattle.rules.specs.Universe.{legal};
-ghost use Rattle.rules.specs.Sequence.{wrapped, signed, difference, refused};
+ghost use Rattle.rules.specs.Sequence.{wrapped, signed, difference, judged, numberOf, number-at};
 ghost use Rattle.rules.specs.Age.{age, aged, expired};
 ghost use Rattle.rules.specs.Cid.{cidOf, cidBytes, same, before};
 ghost use Rattle.rules.specs.Bytes.{number, bigEndian, turnedOf};
@@ -64,14 +64,25 @@ pub fn magnitude(d: i8) -> u8
     d as u8
 }
 
-// Late or repeated: -19 to 0.
-pub fn is_sequence_refused(d: i8) -> bool
-    ensures { λ r. ⌜ r ≡ refused d ⌝ }
+// What the sequence rule answers (document 02, F-4).
+pub enum SequenceAnswer {
+    Accepted,
+    // Number 21.
+    Repeated,
+    // Number 7.
+    Late,
+}
+
+// By the difference: 0 is repeated, -19 to -1 late, all else accepted.
+pub fn sequence_answer(d: i8) -> SequenceAnswer
+    ensures { λ r. ⌜ r ≡ judged d ⌝ }
+    ensures told { λ r. ⌜ numberOf r ≡ number-at d ⌝ }
 {
-    if d < -19 {
-        return false;
+    match d {
+        0 => SequenceAnswer::Repeated,
+        -19..=-1 => SequenceAnswer::Late,
+        _ => SequenceAnswer::Accepted,
     }
-    d <= 0
 }
 
 // Now minus the reading, zero if that is negative.

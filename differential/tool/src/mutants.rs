@@ -1,5 +1,5 @@
-//! Mutants of the reference: each is one text substitution in the test copy or in the driver's step. A differential
-//! run between the reference and a mutant must find a difference, or the scripts are too weak.
+//! Mutants of the reference: each is one text substitution in the test copy or in the driver. A differential run between
+//! the reference and a mutant must find a difference, or the scripts are too weak.
 
 /// The first `old` behind the first `within` of the file gives way to `new`.
 pub struct Mutant {
@@ -57,7 +57,7 @@ const fn packet(
     }
 }
 
-const fn step(
+const fn driver(
     name: &'static str,
     what: &'static str,
     within: &'static str,
@@ -98,6 +98,8 @@ pub const MUTANTS: &[Mutant] = &[
     m("refuse-minus-20", "difference -20 refused", "let seq_diff", "> E131_SEQ_DIFF", ">= E131_SEQ_DIFF"),
     packet("accept-minus-19", "difference -19 accepted", "const E131_SEQ_DIFF_DISCARD_LOWER_BOUND", "-20", "-19"),
     m("accept-0", "difference 0 accepted", "let seq_diff", "<= E131_SEQ_DIFF", "<= -1 + E131_SEQ_DIFF"),
+    driver("repeat-told-late", "a repeat is told as 7", "fn print_answer", "difference == 0", "false"),
+    driver("repeat-at-minus-1", "difference -1 is told as a repeat", "fn print_answer", "difference == 0", "-1 <= difference"),
     packet("refuse-1", "difference 1 refused", "const E131_SEQ_DIFF_DISCARD_UPPER_BOUND", "= 0", "= 1"),
     m("no-modulo", "the difference isn't taken modulo 256", "let seq_diff",
         "sequence_number.wrapping_sub(expected_seq.sequence_number) as i8",
@@ -124,6 +126,8 @@ pub const MUTANTS: &[Mutant] = &[
         "src_sequences.get_mut(&cid).unwrap().insert(universe, TimedStampedSeqNo::new(sequence_number, expected_seq.last_recv)); return Err("),
     m("refused-renewed", "a refused packet renews the reading", "let seq_diff", "return Err(",
         "src_sequences.get_mut(&cid).unwrap().insert(universe, TimedStampedSeqNo::new(expected_seq.sequence_number, Instant::now())); return Err("),
+    m("repeat-renews", "a repeat renews the reading", "let seq_diff", "return Err(",
+        "if seq_diff == 0 { src_sequences.get_mut(&cid).unwrap().insert(universe, TimedStampedSeqNo::new(sequence_number, Instant::now())); } return Err("),
     m("unknown-from-0", "an unknown pair is tested against 0", "let initial_seq_num", "sequence_number.wrapping_sub(1)", "0"),
     m("limit-plus-1", "one source more than the limit", "fn check_seq_number(", "len() < source_limit", "len() <= source_limit"),
     m("limit-minus-1", "one source less than the limit", "fn check_seq_number(", "len() < source_limit", "len() + 1 < source_limit"),
@@ -158,12 +162,12 @@ pub const MUTANTS: &[Mutant] = &[
     m("poll-sync-first", "the poll sweeps the synchronisation table first", "fn check_timeouts(&mut self",
         "check_timeouts(\n            &mut self.data_sequences",
         "check_timeouts(&mut self.sync_sequences, E131_NETWORK_DATA_LOSS_TIMEOUT, announce_timeout)?; check_timeouts(\n            &mut self.data_sequences"),
-    step("poll-waiting-first", "the poll sweeps waiting data even if a 4 ends it", "fn poll",
+    driver("poll-waiting-first", "the poll sweeps waiting data even if a 4 ends it", "fn poll",
         "r.sequences", "r.check_waiting_data_timeouts(); r.sequences"),
-    step("packet-after-4", "a 4 doesn't end the step", "fn call",
+    driver("packet-after-4", "a 4 doesn't end the step", "fn call",
         "poll(r, packet.now).and_then(|()| data(r, packet))",
         "{ let polled = poll(r, packet.now); let answer = data(r, packet); polled.and(answer) }"),
-    step("discovery-without-poll", "a discovery packet isn't preceded by the poll", "Command::Discovery(packet)",
+    driver("discovery-without-poll", "a discovery packet isn't preceded by the poll", "Command::Discovery(packet)",
         "poll(r, packet.now)", "{ clock::set(packet.now); Result::Ok(()) }"),
     // Termination.
     m("sequence-before-termination", "the sequence is tested before termination", "fn handle_data_packet",
@@ -330,7 +334,7 @@ pub const MUTANTS: &[Mutant] = &[
         "self.remove_expired_sources(); self.waiting_data\n"),
     m("discovery-if-listened", "discovery only while 64214 is listened to", "fn handle_universe_discovery_packet", "let data:",
         "if !self.is_listening(&E131_DISCOVERY_UNIVERSE) { return None; } let data:"),
-    step("always-announced", "9 without the announcement", "fn discovery(", "if r.announce_source_discovery", "if true"),
+    driver("always-announced", "9 without the announcement", "fn discovery(", "if r.announce_source_discovery", "if true"),
     // Further calls.
     m("listen-partly", "universes before an illegal one are listened to", "pub fn listen_universes", "is_universe_in_range(*u)?;",
         "is_universe_in_range(*u)?; if let Err(i) = self.universes.binary_search(u) { self.universes.insert(i, *u); }"),
@@ -348,7 +352,7 @@ pub const MUTANTS: &[Mutant] = &[
     m("reset-no-data", "reset leaves the data table", "fn clear(&mut self)", "self.data_sequences.clear();", ""),
     m("reset-no-partial", "reset leaves partial entries", "pub fn reset_sources", "self.partially_discovered_sources.clear();", ""),
     m("reset-no-listed", "reset leaves listed entries", "pub fn reset_sources", "self.discovered_sources.clear();", ""),
-    step("fresh-keeps-limit", "fresh keeps the limit", "Command::Fresh",
+    driver("fresh-keeps-limit", "fresh keeps the limit", "Command::Fresh",
         "*r = receiver(None).expect(\"a fresh receiver\");",
         "let limit = r.source_limit; *r = receiver(None).expect(\"a fresh receiver\"); r.source_limit = limit;"),
     m("limit-0", "limit 0 is taken", "pub fn with_ip", "&& x == 0", "&& false"),

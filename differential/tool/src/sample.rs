@@ -8,7 +8,7 @@ use std::collections::BTreeSet;
 const MOST_BYTES: usize = 1_000_000;
 
 /// What every sample must have seen.
-const NUMBERS: [usize; 10] = [0, 2, 3, 4, 5, 6, 7, 8, 9, 14];
+const NUMBERS: [usize; 11] = [0, 2, 3, 4, 5, 6, 7, 8, 9, 14, 21];
 const MARKS: [&str; 11] = ["d", "dc", "y", "yc", "w", "l", "p", "pp", "q", "qp", "."];
 
 struct Candidate {

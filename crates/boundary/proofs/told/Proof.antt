@@ -56,8 +56,8 @@ one-requires-3 c κs = search needs
 enum-known-a-7 : tie.Need-enum-known-a-7
 enum-known-a-7 c = search needs
 
-out-of-sequence-requires : tie.Need-out-of-sequence-requires
-out-of-sequence-requires c κs = search needs
+sequenced-requires : tie.Need-sequenced-requires
+sequenced-requires c κs = search needs
 
 enum-told-2 : tie.Need-enum-told-2
 enum-told-2 c = search needs
@@ -107,6 +107,12 @@ enum-told-8 c = search needs
 bare-requires-7 : tie.Need-bare-requires-7
 bare-requires-7 c κs = search needs
 
+enum-known-a-9 : tie.Need-enum-known-a-9
+enum-known-a-9 c = search needs
+
+sequenced-requires-2 : tie.Need-sequenced-requires-2
+sequenced-requires-2 c κs = search needs
+
 returns : tie.Need-returns
 returns c = c .bare .ensures ∙ sym (ap toldOf (c .before .enum-told .given .1))
 
@@ -129,7 +135,7 @@ returns-7 : tie.Need-returns-7
 returns-7 c = c .one3 .ensures ∙ sym (ap toldOf (c .before .before .a6 .given .1))
 
 returns-8 : tie.Need-returns-8
-returns-8 c = c .out-of-sequence .ensures ∙ rw (toZ-ofZ {w = w8} {z = c .before .before .a7 .given .0 .1 .1 .0} (record { sfits = c .before .known-told7 .given .1 .1 .0 .1 })) (sym (ap toldOf (c .before .before .a7 .given .1)))
+returns-8 c = c .sequenced .ensures ∙ rw (toZ-ofZ {w = w8} {z = c .before .before .a7 .given .0 .1 .1 .0} (record { sfits = c .before .known-told7 .given .1 .1 .0 .1 })) (sym (ap toldOf (c .before .before .a7 .given .1)))
 
 returns-9 : tie.Need-returns-9
 returns-9 c = c .bare2 .ensures ∙ sym (ap toldOf (c .before .enum-told2 .given .1))
@@ -155,6 +161,9 @@ returns-15 c = c .one4 .ensures ∙ sym (ap toldOf (c .before .before .a8 .given
 returns-16 : tie.Need-returns-16
 returns-16 c = c .bare7 .ensures ∙ sym (ap toldOf (c .before .enum-told8 .given .1))
 
+returns-17 : tie.Need-returns-17
+returns-17 c = c .sequenced2 .ensures ∙ rw (toZ-ofZ {w = w8} {z = c .before .before .a9 .given .0 .1 .1 .0} (record { sfits = c .before .known-told9 .given .1 .1 .0 .1 })) (sym (ap toldOf (c .before .before .a9 .given .1)))
+
 pub told-spec : {M : Type 1} → statement M
 told-spec =
     tie.close
@@ -175,7 +184,7 @@ told-spec =
     enum-known-a-6
     one-requires-3
     enum-known-a-7
-    out-of-sequence-requires
+    sequenced-requires
     enum-told-2
     bare-requires-2
     enum-told-3
@@ -192,6 +201,8 @@ told-spec =
     one-requires-4
     enum-told-8
     bare-requires-7
+    enum-known-a-9
+    sequenced-requires-2
     returns
     returns-2
     returns-3
@@ -207,4 +218,5 @@ told-spec =
     returns-13
     returns-14
     returns-15
-    returns-16)
+    returns-16
+    returns-17)

@@ -112,6 +112,12 @@ enum-told-8 c = search needs
 put-number-requires-7 : tie.Need-put-number-requires-7
 put-number-requires-7 c κs = search needs
 
+enum-known-answer-9 : tie.Need-enum-known-answer-9
+enum-known-answer-9 c = search needs
+
+put-sequence-requires-2 : tie.Need-put-sequence-requires-2
+put-sequence-requires-2 c κs = search needs
+
 same-length : tie.Need-same-length
 same-length c = search needs
 
@@ -273,6 +279,17 @@ returns-16 c =
     let c3 = c2 .before .before .before .before .before in
     tells-as (ap (λ (a : StepAnswer). stepLine (c3 .args .own .now) (c3 .args .released .now) a) (sym (c2 .enum-told8 .given .1))) (c1 .put-number7 .ensures)
 
+same-length-17 : tie.Need-same-length-17
+same-length-17 c = search needs
+
+returns-17 : tie.Need-returns-17
+returns-17 c =
+    let c1 = c .before .before in
+    let c2 = c1 .before .before in
+    let c3 = c2 .before in
+    let c4 = c3 .before .before .before .before .before in
+    tells-as (ap (λ (a : StepAnswer). stepLine (c4 .args .own .now) (c4 .args .released .now) a) (sym (c3 .answer9 .given .1))) (let p = c3 .answer9 .given .0 in tells-as (ap (λ (z : ℤ). answerLine 21 (number (p .0) ∷ number (p .1 .0) ∷ integer z ∷ [])) (toZ-ofZ {w = w8} {z = p .1 .1 .0} (record { sfits = c2 .known-told9 .given .1 .1 .0 .1 }))) (c1 .put-sequence2 .ensures))
+
 pub put-step-spec : {M : Type 1} → statement M
 put-step-spec =
     tie.close
@@ -310,6 +327,8 @@ put-step-spec =
     put-value-requires-4
     enum-told-8
     put-number-requires-7
+    enum-known-answer-9
+    put-sequence-requires-2
     same-length
     returns
     same-length-2
@@ -341,4 +360,6 @@ put-step-spec =
     same-length-15
     returns-15
     same-length-16
-    returns-16)
+    returns-16
+    same-length-17
+    returns-17)
