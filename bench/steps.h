@@ -1,5 +1,5 @@
 /* The steps of a receiver that are timed through C, for bench/step and portable/speed. Each source sends ten universes with 513 values: unsynchronised; the
- * same with timeouts announced; the same while 64 other universes wait. Up to fifty universes that wait and a synchronisation packet that releases them.
+ * same with timeouts announced; the same while 64 other universes wait; a second copy of each packet. Up to fifty universes that wait and a synchronisation packet that releases them.
  * A poll with nothing to do. A discovery page. The clock is read between the turns only, and each answer is held against what the step has to give. */
 #include "tamburelvi.h"
 #include <stdio.h>
@@ -23,8 +23,8 @@ static struct receiver {
 static uint8_t out[TAMBURELVI_OUTPUT], values[TAMBURELVI_VALUES], name[TAMBURELVI_NAME];
 static uint16_t universes[1000];
 
-/* A step, and how many records it releases. */
-struct step { enum { DATA, SYNC, POLL, PAGE } kind; uint64_t hi, lo; uint16_t universe, address; size_t records; };
+/* A step, and how many records it releases. A copy is the data packet that was taken last, once more. */
+struct step { enum { DATA, COPY, SYNC, POLL, PAGE } kind; uint64_t hi, lo; uint16_t universe, address; size_t records; };
 /* The steps of a round, and those that are taken anew before each turn and not timed, so that nothing of theirs times out. */
 static struct step steps[1100], kept[1000];
 static size_t count, kept_count;
@@ -46,7 +46,8 @@ static void carry_out(const struct library *l, struct receiver *x, const struct 
     tamburelvi_memory *t = &x->memory;
     tamburelvi_reply r;
     switch (p->kind) {
-    case DATA: {
+    case DATA:
+    case COPY: {
         tamburelvi_data d = {.hi = p->hi, .lo = p->lo, .universe = p->universe, .address = p->address, .priority = 100, .sequence = sequence};
         r = l->handle_data_packet(TABLES, FOUND, s, now, d, values, sizeof values, out, sizeof out);
         break;
@@ -64,7 +65,10 @@ static void carry_out(const struct library *l, struct receiver *x, const struct 
     }
     x->header = r.header;
     const tamburelvi_answer *a = &r.answer;
-    if (a->number || a->values != (p->records ? TAMBURELVI_RELEASE : TAMBURELVI_NONE) || a->first != p->records || a->second != p->records * RECORD)
+    if (p->kind == COPY) {
+        if (a->number != TAMBURELVI_REPEATED || a->values != TAMBURELVI_SEQUENCE || a->first != sequence || a->second != sequence || a->difference)
+            printf("FAILED: %s: number %u for a second copy\n", l->name, a->number), exit(1);
+    } else if (a->number || a->values != (p->records ? TAMBURELVI_RELEASE : TAMBURELVI_NONE) || a->first != p->records || a->second != p->records * RECORD)
         printf("FAILED: %s: number %u, values of kind %u, %zu and %zu\n", l->name, a->number, a->values, a->first, a->second), exit(1);
 }
 
@@ -94,7 +98,7 @@ static void measure(const struct library *sides, int n, const char *what, size_t
             for (size_t k = 0; k < kept_count; k++) carry_out(&sides[i], x, &kept[k], s, now, (uint8_t)turn);
             double start = clock_ns();
             for (size_t m = 0; m < repeats; m++, q++)
-                for (size_t k = 0; k < count; k++) carry_out(&sides[i], x, &steps[k], s, now, q);
+                for (size_t k = 0; k < count; k++) carry_out(&sides[i], x, &steps[k], s, now, steps[k].kind == COPY ? (uint8_t)turn : q);
             if (turn && turns < MOST_TURNS) times[i][turns] = (clock_ns() - start) / (double)(repeats * count);
             if (x->header.data_pairs != pairs || x->header.waiting != waiting)
                 printf("FAILED: %s: %zu pairs, and %zu universes wait\n", sides[i].name, x->header.data_pairs, x->header.waiting), exit(1);
@@ -137,6 +141,15 @@ static void measure_all(const struct library *sides, int n, double seconds, prin
     for (size_t k = 0; k < WAITING; k++) kept[kept_count++] = data_of(k, ADDRESS);
     steps[count++] = data_of(WAITING, 0);
     measure(sides, n, "unsynchronised, universes wait", WAITING, WAITING + 1, false, seconds, print);
+    for (int i = 0; i < 4; i++) {
+        count = kept_count = 0;
+        for (size_t k = 0; k < sizes[i]; k++) {
+            kept[kept_count++] = data_of(k, 0);
+            steps[count] = data_of(k * 7 % sizes[i], 0);
+            steps[count++].kind = COPY;
+        }
+        measure(sides, n, "unsynchronised, second copy", sizes[i], sizes[i], false, seconds, print);
+    }
     for (int i = 0; i < 4; i++) {
         count = kept_count = 0;
         for (size_t k = 0; k < sizes[i]; k++) kept[kept_count++] = data_of(k, 0);
