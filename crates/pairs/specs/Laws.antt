@@ -23,7 +23,6 @@ use Rattle.rules.specs.declared.SequenceAnswer.{SequenceAnswer}
 use Rattle.rules.specs.declared.SequenceAnswer.the-variants as sequence
 use Rattle.rules.specs.Sequence.{difference, judged}
 use Rattle.rules.specs.Sequence as rule
-use Rattle.rules.specs.Answer.{number, integer}
 use Rattle.settings.specs.declared.SourceLimit.{SourceLimit}
 use Rattle.pairs.specs.declared.Pair.{Pair}
 use Rattle.pairs.specs.declared.Checked.{Checked}
@@ -48,16 +47,16 @@ judged-either sequence.Accepted f g h = f refl
 judged-either sequence.Repeated f g h = g refl
 judged-either sequence.Late f g h = h refl
 
--- what it answers has the rule's number; refused, it has the values arriving, last and difference
+-- what it answers has the rule's number and values
 pub told-number : (arriving last : ℕ) (d : ℤ) (a : SequenceAnswer) → numberOf (told-as arriving last d a) ≡ rule.numberOf a
 told-number arriving last d sequence.Accepted = refl
 told-number arriving last d sequence.Repeated = refl
 told-number arriving last d sequence.Late = refl
 
-pub told-values : (arriving last : ℕ) (d : ℤ) (a : SequenceAnswer) → rule.refuses a ≡ true → valuesOf (told-as arriving last d a) ≡ number arriving ∷ number last ∷ integer d ∷ []
-told-values arriving last d sequence.Accepted h = clash h refl
-told-values arriving last d sequence.Repeated h = refl
-told-values arriving last d sequence.Late h = refl
+pub told-values : (arriving last : ℕ) (d : ℤ) (a : SequenceAnswer) → valuesOf (told-as arriving last d a) ≡ rule.valuesOf arriving last d a
+told-values arriving last d sequence.Accepted = refl
+told-values arriving last d sequence.Repeated = refl
+told-values arriving last d sequence.Late = refl
 
 -- it stops an arrival with 7 or 21, and with nothing else
 pub refused-either {ℓ} : (P : Checked → Type ℓ) (n : ℕ) (o : Option Pair) (a : Checked) → sequence-stop n o ≡ some a

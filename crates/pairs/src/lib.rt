@@ -1,7 +1,7 @@
 // Document 01, 'Pair tables': what a pair and the answers are. What a table of pairs is, and what each call makes of it, is said in specs/Table.antt.
 ghost use mathlib.Core.Path.{_≡_};
-ghost use Rattle.rules.specs.Sequence.{difference, number-at};
-ghost use Rattle.pairs.specs.Table.{reached, check-sequence, accepted, numberOf};
+ghost use Rattle.rules.specs.Sequence.{sequence-told};
+ghost use Rattle.pairs.specs.Table.{reached, check-sequence, accepted, numberOf, valuesOf};
 use rules::Cid;
 use rules::SequenceAnswer;
 use rules::sequence_answer;
@@ -53,7 +53,7 @@ pub fn is_reached(limit: SourceLimit, n: usize) -> bool
 // Rule 4 for a pair that is held: what the sequence rule answers of the arriving number and the last.
 pub fn check_sequence(arriving: u8, last: u8) -> Checked
     ensures { λ r. ⌜ r ≡ check-sequence arriving last ⌝ }
-    ensures told { λ r. ⌜ numberOf r ≡ number-at (difference arriving last) ⌝ }
+    ensures told { λ r. ⌜ (numberOf r, valuesOf r) ≡ sequence-told arriving last ⌝ }
 {
     let difference = sequence_difference(arriving, last);
     match sequence_answer(difference) {

@@ -2,6 +2,7 @@
 -- Assumes nothing.
 use mathlib.Core.Path.{_≡_, refl, sym, ap, _∙_}
 use mathlib.Core.Bool.{Bool, true, false, not, cond, _&&_}
+use mathlib.Core.List.{List, [], _∷_}
 use Prim.Native.Nat.{ℕ, zero, suc, _+_, _-_, _%_, _<_}
 use native.Mathlib.Omega.{arith}
 use lib.Dec.{ltb, leb, eqb}
@@ -9,6 +10,7 @@ use lib.IntN.{ℤ, pos, negsuc, negℤ, natAbs}
 use lib.Signed.{leZ}
 use borrow.Author.Tests.{le-leb, lt-leb, eq-eqb}
 use Rattle.laws.specs.Cases.{split, clash}
+use Rattle.rules.specs.Answer.{Value, number, integer}
 use Rattle.rules.specs.declared.SequenceAnswer.{SequenceAnswer}
 use Rattle.rules.specs.declared.SequenceAnswer.the-variants.{Accepted, Repeated, Late}
 
@@ -35,15 +37,24 @@ late d = leZ (negℤ (pos 19)) d && leZ d (negℤ (pos 1))
 abbrev pub judged : ℤ → SequenceAnswer
 judged d = cond (repeated d) Repeated (cond (late d) Late Accepted)
 
--- ── the answers by number: "21 for a repeat, with the values and the place of 7, which keeps the rest" ──
+-- ── the answers by number and values: "21 for a repeat, with the values and the place of 7, which keeps the rest" ──
 abbrev pub numberOf : SequenceAnswer → ℕ
 numberOf Accepted = 0
 numberOf Repeated = 21
 numberOf Late = 7
 
--- the number by the difference
+-- of an arriving number, the last and their difference
+abbrev pub valuesOf : ℕ → ℕ → ℤ → SequenceAnswer → List Value
+valuesOf arriving last d Accepted = []
+valuesOf arriving last d Repeated = number arriving ∷ number last ∷ integer d ∷ []
+valuesOf arriving last d Late = number arriving ∷ number last ∷ integer d ∷ []
+
+-- the number by the difference; number and values of two numbers
 abbrev pub number-at : ℤ → ℕ
 number-at d = cond (repeated d) 21 (cond (late d) 7 0)
+
+abbrev pub sequence-told : ℕ → ℕ → ℕ × List Value
+sequence-told arriving last = (number-at (difference arriving last), valuesOf arriving last (difference arriving last) (judged (difference arriving last)))
 
 abbrev pub accepted : SequenceAnswer → Bool
 accepted Accepted = true

@@ -7,11 +7,11 @@ use mir.Val.{toZ, ofZ}
 use mir.ValLaws.{toZ-ofZ}
 use Rattle.rules.specs.declared.SequenceAnswer.{SequenceAnswer}
 use Rattle.rules.specs.declared.SequenceAnswer.the-variants.{Accepted, Repeated, Late}
-use Rattle.rules.specs.Sequence.{difference, judged, number-at}
+use Rattle.rules.specs.Sequence.{difference, judged, number-at, sequence-told}
 use Rattle.rules.specs.Sequence as rule
 use Rattle.pairs.specs.declared.Checked.{Checked}
-use Rattle.pairs.specs.Table.{told-as, check-sequence, numberOf}
-use Rattle.pairs.specs.Laws.{told-number}
+use Rattle.pairs.specs.Table.{told-as, check-sequence, numberOf, valuesOf}
+use Rattle.pairs.specs.Laws.{told-number, told-values}
 use borrow.Author.Needs.{needs}
 use Rattle.pairs.proofs.check_sequence.Statement.{statement}
 use Rattle.pairs.proofs.check_sequence.Tie as tie
@@ -21,7 +21,7 @@ read-back : (c : tie.After-sequence-difference) → toZ w8 (ofZ w8 (c .sequence-
 read-back c = toZ-ofZ w8 (c .sequence-difference .result) (record { sfits = c .sequence-difference .ok }) ∙ c .sequence-difference .ensures
 
 abbrev Tells : tie.Start → Checked → Type 0
-Tells s r = (r ≡ check-sequence (s .args .arriving) (s .args .last)) × (numberOf r ≡ number-at (difference (s .args .arriving) (s .args .last)))
+Tells s r = (r ≡ check-sequence (s .args .arriving) (s .args .last)) × ((numberOf r, valuesOf r) ≡ sequence-told (s .args .arriving) (s .args .last))
 
 told : (c : tie.After-sequence-answer) (x : SequenceAnswer) → c .sequence-answer .result ≡ x
     → let d = c .before in Tells (d .before) (told-as (d .before .args .arriving) (d .before .args .last) (toZ w8 (ofZ w8 (d .sequence-difference .result))) x)
@@ -30,10 +30,11 @@ told c x e =
     let a = d .before .args .arriving in
     let l = d .before .args .last in
     let z = read-back d in
-    let j : x ≡ judged (difference a l) = sym e ∙ c .sequence-answer .ensures .0 ∙ ap judged z in (
-      ap (λ (y : ℤ). told-as a l y x) z ∙ ap (told-as a l (difference a l)) j,
-      told-number a l (toZ w8 (ofZ w8 (d .sequence-difference .result))) x ∙ ap rule.numberOf (sym e) ∙ c .sequence-answer .ensures .1 ∙ ap number-at z,
-    )
+    let j : x ≡ judged (difference a l) = sym e ∙ c .sequence-answer .ensures .0 ∙ ap judged z in
+    let r : told-as a l (toZ w8 (ofZ w8 (d .sequence-difference .result))) x ≡ told-as a l (difference a l) x = ap (λ (y : ℤ). told-as a l y x) z in
+    let n : numberOf (told-as a l (difference a l) x) ≡ number-at (difference a l) = told-number a l (difference a l) x ∙ ap rule.numberOf (sym e) ∙ c .sequence-answer .ensures .1 ∙ ap number-at z in
+    let v : valuesOf (told-as a l (difference a l) x) ≡ rule.valuesOf a l (difference a l) (judged (difference a l)) = told-values a l (difference a l) x ∙ ap (rule.valuesOf a l (difference a l)) j in
+    (r ∙ ap (told-as a l (difference a l)) j, ap (λ (y : Checked). (numberOf y, valuesOf y)) r ∙ (λ i. (n i, v i)))
 
 sequence-difference-requires : tie.Need-sequence-difference-requires
 sequence-difference-requires c κs = search needs
