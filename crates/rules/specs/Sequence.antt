@@ -2,7 +2,7 @@
 -- Assumes nothing.
 use mathlib.Core.Path.{_≡_, refl, sym, ap, _∙_}
 use mathlib.Core.Bool.{Bool, true, false, not, cond, _&&_}
-use mathlib.Core.List.{List, [], _∷_}
+use mathlib.Core.List.{List, [], _∷_, map}
 use Prim.Native.Nat.{ℕ, zero, suc, _+_, _-_, _%_, _<_}
 use native.Mathlib.Omega.{arith}
 use lib.Dec.{ltb, leb, eqb}
@@ -67,6 +67,11 @@ refuses a = not (accepted a)
 
 abbrev pub refused : ℤ → Bool
 refused d = refuses (judged d)
+
+-- the numbers at the ends of each range
+edges : map (λ (d : ℤ). numberOf (judged d)) (negℤ (pos 128) ∷ negℤ (pos 20) ∷ negℤ (pos 19) ∷ negℤ (pos 1) ∷ pos 0 ∷ pos 1 ∷ pos 127 ∷ [])
+    ≡ 0 ∷ 0 ∷ 7 ∷ 7 ∷ 21 ∷ 0 ∷ 0 ∷ []
+edges = refl
 
 -- ── laws ──
 -- from the first to the second, both included

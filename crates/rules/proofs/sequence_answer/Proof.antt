@@ -3,7 +3,7 @@
 use mathlib.Core.Path.{_≡_, refl, sym, ap, _∙_}
 use mathlib.Core.Logic.{_≢_}
 use mathlib.Core.Bool.{true, false}
-use Prim.Native.Nat.{zero, suc}
+use Prim.Native.Nat.{ℕ, zero, suc, _≤_}
 use native.Mathlib.Omega.{arith}
 use borrow.Author.Tests.{ltb-true, ltb-false, le-ltb, le-leb, lt-leb}
 use lib.IntN.{ℤ, pos, negsuc}
@@ -21,13 +21,13 @@ use Rattle.rules.proofs.sequence_answer.Tie as tie
 abbrev Answers : SequenceAnswer → ℤ → Type 0
 Answers a d = (a ≡ judged d) × (numberOf a ≡ number-at d)
 
-below : (d : ℤ) → ltZ d (negsuc 18) ≡ true → Answers Accepted d
-below (pos n) h = clash h refl
-below (negsuc n) h = let e = lt-leb n 18 (ltb-true 18 n h) in (rw e, rw e)
+below : {n : ℕ} (d : ℤ) → ltZ d (negsuc n) ≡ true → 18 ≤ n → Answers Accepted d
+below (pos m) h b = clash h refl
+below {n} (negsuc m) h b = let e = lt-leb m 18 (omega (arith, ltb-true n m h)) in (rw e, rw e)
 
-behind : (d : ℤ) → ltZ d (negsuc 18) ≡ false → ltZ d (pos 0) ≡ true → Answers Late d
-behind (pos n) h g = clash g (le-ltb n 0 (omega arith))
-behind (negsuc n) h g = let e = le-leb n 18 (ltb-false 18 n h) in let f = le-leb 0 n (omega arith) in (rw (e, f), rw (e, f))
+behind : {n : ℕ} (d : ℤ) → ltZ d (negsuc n) ≡ false → ltZ d (pos 0) ≡ true → n ≤ 18 → Answers Late d
+behind (pos m) h g b = clash g (le-ltb m 0 (omega arith))
+behind {n} (negsuc m) h g b = let e = le-leb m 18 (omega (arith, ltb-false n m h)) in let f = le-leb 0 m (omega arith) in (rw (e, f), rw (e, f))
 
 ahead : (d : ℤ) → ltZ d (pos 0) ≡ false → d ≢ pos 0 → Answers Accepted d
 ahead (pos zero) h n = absurd (n refl)
@@ -43,12 +43,12 @@ returns-2 : tie.Need-returns-2
 returns-2 c =
     let s = c .before .before .before in
     let e = toZ-ofZ (s .fits .d) in
-    behind (s .args .d) (rw e at (c .before .if1 .left)) (rw e at (c .if2 .taken))
+    behind (s .args .d) (rw e at (c .before .if1 .left)) (rw e at (c .if2 .taken)) (omega arith)
 
 returns-3 : tie.Need-returns-3
 returns-3 c =
     let s = c .before .before in
-    below (s .args .d) (rw (toZ-ofZ (s .fits .d)) at (c .if1 .taken))
+    below (s .args .d) (rw (toZ-ofZ (s .fits .d)) at (c .if1 .taken)) (omega arith)
 
 returns-4 : tie.Need-returns-4
 returns-4 c =
