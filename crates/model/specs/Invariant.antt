@@ -189,10 +189,13 @@ poll-kept S now s k =
     (λ j e. let q : poll S now s .0 ≡ with-data (r .0) s = unfold poll in cc in subst Kept (sym q) h)
 
 -- ── the packets ──
--- either way of a test, and of an arrival
+-- either way of a test, with its equation and without, and of an arrival
+pub cond-by {ℓ} : {A : Type 0} (P : A → Type ℓ) (b : Bool) (x y : A) → (b ≡ true → P x) → (b ≡ false → P y) → P (cond b x y)
+cond-by P true x y f g = f refl
+cond-by P false x y f g = g refl
+
 pub cond-either {ℓ} : {A : Type 0} (P : A → Type ℓ) (b : Bool) (x y : A) → P x → P y → P (cond b x y)
-cond-either P true x y p q = p
-cond-either P false x y p q = q
+cond-either P b x y p q = cond-by P b x y (λ e. p) (λ e. q)
 
 pub if-accepted-either : (P : Outcome → Type 0) (a : Checked) (go stay : Outcome) → P go → P stay → P (if-accepted a go stay)
 unfolding if-accepted
@@ -204,10 +207,13 @@ heard-either P listening.Listening go s x y = x
 heard-either P (listening.IllegalUniverse u) go s x y = y _
 heard-either P listening.ListenedFull go s x y = y _
 
-release-kept : (ds : List Dmx) (s : State) → Kept s → Kept (release ds s .state)
+pub release-state : (ds : List Dmx) (s : State) → release ds s .state ≡ s
 unfolding release
-release-kept [] s k = k
-release-kept (d ∷ ds) s k = k
+release-state [] s = refl
+release-state (d ∷ ds) s = refl
+
+release-kept : (ds : List Dmx) (s : State) → Kept s → Kept (release ds s .state)
+release-kept ds s k = rw (release-state ds s) k
 
 terminated-kept : (d : DataPacket) (s : State) → Kept s → Kept (terminated d s)
 unfolding terminated

@@ -1,8 +1,8 @@
 -- Document 02, F-4, of the whole receiver: a repeat renews neither sequence number nor reading, in the data table and in the sync table, so a
 -- source that only repeats itself expires, whatever others send and whatever else is called.
 -- Assumes nothing.
-use mathlib.Core.Path.{_≡_, refl, sym, _∙_}
-use mathlib.Core.Bool.{Bool, true, false, cond, not, _&&_}
+use mathlib.Core.Path.{_≡_, sym, _∙_}
+use mathlib.Core.Bool.{Bool, true, false, not, _&&_}
 use mathlib.Core.Option.{Option, none, some}
 use mathlib.Core.List.{List, [], _∷_}
 use Prim.Native.Nat.{ℕ}
@@ -14,12 +14,11 @@ use Rattle.pairs.specs.declared.Pair.{Pair}
 use Rattle.pairs.specs.Table as pairs
 use Rattle.pairs.specs.Laws.{pairAt-without-other}
 use Rattle.pairs.specs.Repeats.{Stands, sweep-live, swept-expired, check-repeated}
-use Rattle.merge.specs.Merge.{Dmx}
 use Rattle.model.specs.Packet.{DataPacket, SyncPacket, Packet, data-packet, sync-packet, discovery-packet, too-long}
 use Rattle.model.specs.State.{State, listens}
 use Rattle.model.specs.Step.{Outcome, too-short, short, waiting-bytes, page-bytes, poll-waiting, poll-sync, poll, data-pair, sync-pair, known, release, terminated, unsynchronised, stored, synchronised, accepted, data-arrival, data-step, synchronise, sync-arrival, sync-step, discovery-step, packet-step, polled, measured, step}
 use Rattle.model.specs.Calls.{poll-call, expiry-call, listen-call, mute-call, clear-call, clear-all-call, Call, on-packet, on-poll, on-expiry, on-listen, on-mute, on-ask, on-clear, on-clear-all, on-reset, call, run}
-use Rattle.model.specs.Invariant.{Kept, cond-either, if-accepted-either, heard-either, polled-by-state, poll-kept, call-kept, run-from}
+use Rattle.model.specs.Invariant.{Kept, cond-by, cond-either, release-state, if-accepted-either, heard-either, polled-by-state, poll-kept, call-kept, run-from}
 
 -- ── what may come while pair q only repeats itself ──
 -- of data pair q a packet brings nothing but its number again, and not its end
@@ -84,16 +83,6 @@ sync-stays q = record {
 }
 
 -- ── so each call leaves it ──
--- either way of a test, with its equation
-cond-by : {A : Type 0} (P : A → Type 0) (b : Bool) (x y : A) → (b ≡ true → P x) → (b ≡ false → P y) → P (cond b x y)
-cond-by P true x y f g = f refl
-cond-by P false x y f g = g refl
-
-release-state : (ds : List Dmx) (s : State) → release ds s .state ≡ s
-unfolding release
-release-state [] s = refl
-release-state (d ∷ ds) s = refl
-
 module _ {Again : Pair → Packet → Type 0} {q : Pair} {At : pairs.Table → pairs.Table → Type 0} (stays : Stays Again q At) where
   abbrev Holds : State → Type 0
   Holds s = At (s .data-pairs) (s .sync-pairs)
@@ -169,13 +158,13 @@ module _ {Again : Pair → Packet → Type 0} {q : Pair} {At : pairs.Table → p
   run-stays (c ∷ cs) s k (a, b) h = run-stays cs (call c s) (call-kept c s k) b (call-stays c s k a h)
 
 -- ── A REPEAT RENEWS NOTHING: q stays as its last accepted arrival left it ──
-pub data-repeats : (cs : List Call) (q : Pair) (s : State) → Kept s → Calls-again Data-again q cs → Stands q (s .data-pairs) → Stands q (run cs s .data-pairs)
-data-repeats cs q s k a h = run-stays (data-stays q) cs s k a h
+pub data-repeats-renew-nothing : (cs : List Call) (q : Pair) (s : State) → Kept s → Calls-again Data-again q cs → Stands q (s .data-pairs) → Stands q (run cs s .data-pairs)
+data-repeats-renew-nothing cs q s k a h = run-stays (data-stays q) cs s k a h
 
-pub sync-repeats : (cs : List Call) (q : Pair) (s : State) → Kept s → Calls-again Sync-again q cs → Stands q (s .sync-pairs) → Stands q (run cs s .sync-pairs)
-sync-repeats cs q s k a h = run-stays (sync-stays q) cs s k a h
+pub sync-repeats-renew-nothing : (cs : List Call) (q : Pair) (s : State) → Kept s → Calls-again Sync-again q cs → Stands q (s .sync-pairs) → Stands q (run cs s .sync-pairs)
+sync-repeats-renew-nothing cs q s k a h = run-stays (sync-stays q) cs s k a h
 
--- ── and goes with the first poll 2,500 after that ──
+-- ── so it is expired 2,500 after that and goes with the first poll, announcements off; on, it goes when number 4 names it ──
 -- a poll without announcement sweeps both tables
 poll-off : (S : Settings) (now : ℕ) (s : State) → S .«announce_timeout» ≡ false
     → (poll S now s .0 .data-pairs ≡ pairs.swept now (s .data-pairs)) × (poll S now s .0 .sync-pairs ≡ pairs.swept now (s .sync-pairs))
@@ -184,7 +173,7 @@ poll-off S now s off = (rw off, rw off)
 
 module _ (cs : List Call) (q : Pair) (s : State) (S : Settings) (now : ℕ) (k : Kept s) (off : S .«announce_timeout» ≡ false) (e : expired now (q .reading) ≡ true) where
   pub data-repeats-expire : Calls-again Data-again q cs → Stands q (s .data-pairs) → pairs.pairAt (pairs.keyOf q) (poll S now (run cs s) .0 .data-pairs .pairs) ≡ none
-  data-repeats-expire a h = rw (poll-off S now (run cs s) off .0) (swept-expired now q _ (run-from cs s k .kept-data .ordered) e (data-repeats cs q s k a h))
+  data-repeats-expire a h = rw (poll-off S now (run cs s) off .0) (swept-expired now q _ (run-from cs s k .kept-data .ordered) e (data-repeats-renew-nothing cs q s k a h))
 
   pub sync-repeats-expire : Calls-again Sync-again q cs → Stands q (s .sync-pairs) → pairs.pairAt (pairs.keyOf q) (poll S now (run cs s) .0 .sync-pairs .pairs) ≡ none
-  sync-repeats-expire a h = rw (poll-off S now (run cs s) off .1) (swept-expired now q _ (run-from cs s k .kept-sync .ordered) e (sync-repeats cs q s k a h))
+  sync-repeats-expire a h = rw (poll-off S now (run cs s) off .1) (swept-expired now q _ (run-from cs s k .kept-sync .ordered) e (sync-repeats-renew-nothing cs q s k a h))

@@ -42,7 +42,7 @@ accepted-is (Repeated a l d) e = let z : _≡_ {A = ℕ} 0 1 = cc in absurd (ome
 
 -- ── the sequence rule ──
 -- by its answers
-pub judged-either {ℓ} : {C : Type ℓ} (a : SequenceAnswer) → (a ≡ sequence.Accepted → C) → (a ≡ sequence.Repeated → C) → (a ≡ sequence.Late → C) → C
+judged-either {ℓ} : {C : Type ℓ} (a : SequenceAnswer) → (a ≡ sequence.Accepted → C) → (a ≡ sequence.Repeated → C) → (a ≡ sequence.Late → C) → C
 judged-either sequence.Accepted f g h = f refl
 judged-either sequence.Repeated f g h = g refl
 judged-either sequence.Late f g h = h refl

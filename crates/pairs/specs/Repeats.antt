@@ -105,7 +105,7 @@ repeats-renew-nothing (x ∷ xs) q t o (s, l, r) h =
     repeats-renew-nothing xs q (check (x .limit) (x .announce) (x .pair) t .0) (ordered-check (x .limit) (x .announce) (x .pair) t o) r
     (check-repeated (x .limit) (x .announce) (x .pair) q t o s l h)
 
--- and goes with the first sweep 2,500 after that
+-- so it is expired 2,500 after that and goes with the first sweep, announcements off; on, it goes when number 4 names it
 pub repeats-expire : (xs : List Arriving) (q : Pair) (t : Table) (now : ℕ) → Ordered t → Repeats q xs → Stands q t → expired now (q .reading) ≡ true
     → pairAt (keyOf q) (swept now (arrivals xs t) .pairs) ≡ none
 repeats-expire xs q t now o r h e = swept-expired now q (arrivals xs t) (ordered-arrivals xs t o) e (repeats-renew-nothing xs q t o r h)

@@ -119,7 +119,7 @@ refused-exactly (negsuc n) = (
   (λ (f, l). ap refuses (behind n f)),
 )
 
--- a number after itself, and no other, is a repeat
+-- a number after itself, and no other byte, is a repeat
 pub difference-same : (n : ℕ) → difference n n ≡ pos 0
 difference-same n = let e : n + 256 - n ≡ 256 = omega arith in rw e
 
@@ -133,8 +133,12 @@ signed-zero d b e =
     (λ f. let g : pos d ≡ pos 0 = rw f at e in ap natAbs g)
     (λ f. let g : negℤ (pos (256 - d)) ≡ pos 0 = rw f at e in let z = negative-zero (256 - d) g in absurd (omega arith))
 
-pub repeated-same : (arriving last : ℕ) → arriving < 256 → last < 256 → judged (difference arriving last) ≡ Repeated → arriving ≡ last
-repeated-same arriving last a l h =
-    let d = wrapped arriving last in
-    let z : d ≡ 0 = signed-zero d (omega arith) (repeated-exactly (difference arriving last) .0 h) in
-    omega arith
+pub repeated-same : (arriving last : ℕ) → arriving < 256 → last < 256
+    → (judged (difference arriving last) ≡ Repeated → arriving ≡ last) × (arriving ≡ last → judged (difference arriving last) ≡ Repeated)
+repeated-same arriving last a l = (
+  (λ h.
+      let d = wrapped arriving last in
+      let z : d ≡ 0 = signed-zero d (omega arith) (repeated-exactly (difference arriving last) .0 h) in
+      omega arith),
+  (λ e. repeated-exactly (difference arriving last) .1 (ap (λ (n : ℕ). difference n last) e ∙ difference-same last)),
+)
