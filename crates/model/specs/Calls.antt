@@ -24,7 +24,7 @@ use Rattle.model.specs.declared.ClearAnswer.{ClearAnswer}
 use Rattle.model.specs.declared.ClearAnswer.the-variants as clearing
 use Rattle.model.specs.Packet.{Packet}
 use Rattle.model.specs.State.{State, itself, listens, fresh}
-use Rattle.model.specs.Step.{Space, short, waiting-bytes, page-bytes, poll, step, listen-all, with-waiting, with-listened, with-discovered}
+use Rattle.model.specs.Step.{Space, short, waiting-bytes, page-bytes, poll, step, listen-all, with-data, with-sync, with-waiting, with-listened, with-discovered}
 
 -- "poll": a call tests the stores that it is lent, as a step does; waiting is the length of the waiting values
 unfoldable pub polled-by : State × Option pairs.Key → State × PollAnswer
@@ -68,15 +68,17 @@ clear-call room u s = elim (short waiting-bytes room) [
 unfoldable pub clear-all-call : State → State
 clear-all-call s = with-waiting [] s
 
--- "`reset_sources` (both pair tables and both discovery lists, not waiting data)"
+-- Document 02, F-2, `reset_pairs`: "one for both pair tables"
+unfoldable pub reset-pairs-call : State → State
+reset-pairs-call s = with-sync pairs.empty (with-data pairs.empty s)
+
+-- `reset_discovery`: "one for both discovery lists"
+unfoldable pub reset-discovery-call : State → State
+reset-discovery-call s = with-discovered discovery.nothing-known s
+
+-- `reset_sources`: "The old call becomes the two in turn"
 unfoldable pub reset-call : State → State
-reset-call s = record {
-  data-pairs = pairs.empty;
-  sync-pairs = pairs.empty;
-  waiting = s .waiting;
-  listened = s .listened;
-  discovered = discovery.nothing-known;
-}
+reset-call s = reset-discovery-call (reset-pairs-call s)
 
 -- ── lists of calls ──
 pub data Call : Type 0 where
@@ -88,6 +90,8 @@ pub data Call : Type 0 where
   on-ask : ℕ → Call
   on-clear : ℕ → ℕ → Call
   on-clear-all : Call
+  on-reset-pairs : Call
+  on-reset-discovery : Call
   on-reset : Call
 
 unfoldable pub call : Call → State → State
@@ -99,6 +103,8 @@ call (on-mute u) s = mute-call u s .0
 call (on-ask u) s = s
 call (on-clear room u) s = clear-call room u s .0
 call on-clear-all s = clear-all-call s
+call on-reset-pairs s = reset-pairs-call s
+call on-reset-discovery s = reset-discovery-call s
 call on-reset s = reset-call s
 
 -- what a list of calls leaves of a state

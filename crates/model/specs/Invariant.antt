@@ -34,7 +34,7 @@ use Rattle.model.specs.declared.ListenAnswer.the-variants as listening
 use Rattle.model.specs.Packet.{DataPacket, SyncPacket, Packet, data-packet, sync-packet, discovery-packet, over, too-long}
 use Rattle.model.specs.State.{State, fresh, listens, itself}
 use Rattle.model.specs.Step.{Space, Outcome, outcome, with-data, with-sync, with-waiting, with-listened, with-discovered, most-listened, illegal, joined-by, listen-all, too-short, short, poll-waiting, poll-sync, poll, if-accepted, release, terminated, unsynchronised, stored, heard, synchronised, accepted, data-arrival, data-step, synchronise, sync-arrival, sync-step, discovery-step, packet-step, polled, measured, step, dmx, data-pair, sync-pair, known, waiting-bytes, page-bytes}
-use Rattle.model.specs.Calls.{poll-call, polled-by, expiry-call, listen-call, muted, mute-call, clear-call, clear-all-call, reset-call, Call, on-packet, on-poll, on-expiry, on-listen, on-mute, on-ask, on-clear, on-clear-all, on-reset, call, run}
+use Rattle.model.specs.Calls.{poll-call, polled-by, expiry-call, listen-call, muted, mute-call, clear-call, clear-all-call, reset-pairs-call, reset-discovery-call, reset-call, Call, on-packet, on-poll, on-expiry, on-listen, on-mute, on-ask, on-clear, on-clear-all, on-reset-pairs, on-reset-discovery, on-reset, call, run}
 
 -- ── listened universes ──
 pub record Heard (L : List ℕ) : Type 0 where
@@ -303,15 +303,13 @@ mute-kept : (u : ℕ) (s : State) → Kept s → Kept (mute-call u s .0)
 unfolding mute-call
 mute-kept u s k = listened-anew s k _ (mute-heard u (s .listened) (k .kept-listened))
 
-reset-kept : (s : State) → Kept s → Kept (reset-call s)
-unfolding reset-call
-reset-kept s k = record {
-  kept-data = empty-kept;
-  kept-sync = empty-kept;
-  kept-waiting = k .kept-waiting;
-  kept-listened = k .kept-listened;
-  kept-discovered = kept-fresh .kept-discovered;
-}
+reset-pairs-kept : (s : State) → Kept s → Kept (reset-pairs-call s)
+unfolding reset-pairs-call
+reset-pairs-kept s k = sync-anew _ (data-anew s k pairs.empty empty-kept) pairs.empty empty-kept
+
+reset-discovery-kept : (s : State) → Kept s → Kept (reset-discovery-call s)
+unfolding reset-discovery-call
+reset-discovery-kept s k = discovered-anew s k _ (kept-fresh .kept-discovered)
 
 pub call-kept : (c : Call) (s : State) → Kept s → Kept (call c s)
 unfolding call
@@ -334,7 +332,9 @@ call-kept (on-clear room u) s k =
     subst Kept (sym q) (waiting-anew s k _ (waiting-laws.ordered-cleared u (s .waiting) (k .kept-waiting))))
     (λ n e. let q : clear-call room u s .0 ≡ s = unfold clear-call in cc in subst Kept (sym q) k)
 call-kept on-clear-all s k = unfold clear-all-call in waiting-anew s k [] waiting-laws.ordered-none
-call-kept on-reset s k = reset-kept s k
+call-kept on-reset-pairs s k = reset-pairs-kept s k
+call-kept on-reset-discovery s k = reset-discovery-kept s k
+call-kept on-reset s k = unfold reset-call in reset-discovery-kept _ (reset-pairs-kept s k)
 
 pub run-from : (cs : List Call) (s : State) → Kept s → Kept (run cs s)
 unfolding run

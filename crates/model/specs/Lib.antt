@@ -3,6 +3,7 @@ pub mod Answer
 pub mod State
 pub mod Step
 pub mod Calls
+pub mod Halves
 pub mod Examples
 pub mod ListenExamples
 pub mod Invariant

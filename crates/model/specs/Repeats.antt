@@ -17,7 +17,7 @@ use Rattle.pairs.specs.Repeats.{Stands, sweep-live, swept-expired, check-repeat
 use Rattle.model.specs.Packet.{DataPacket, SyncPacket, Packet, data-packet, sync-packet, discovery-packet, too-long}
 use Rattle.model.specs.State.{State, listens}
 use Rattle.model.specs.Step.{Outcome, too-short, short, waiting-bytes, page-bytes, poll-waiting, poll-sync, poll, data-pair, sync-pair, known, release, terminated, unsynchronised, stored, synchronised, accepted, data-arrival, data-step, synchronise, sync-arrival, sync-step, discovery-step, packet-step, polled, measured, step}
-use Rattle.model.specs.Calls.{poll-call, expiry-call, listen-call, mute-call, clear-call, clear-all-call, Call, on-packet, on-poll, on-expiry, on-listen, on-mute, on-ask, on-clear, on-clear-all, on-reset, call, run}
+use Rattle.model.specs.Calls.{poll-call, expiry-call, listen-call, mute-call, clear-call, clear-all-call, reset-discovery-call, Call, on-packet, on-poll, on-expiry, on-listen, on-mute, on-ask, on-clear, on-clear-all, on-reset-pairs, on-reset-discovery, on-reset, call, run}
 use Rattle.model.specs.Invariant.{Kept, cond-by, cond-either, release-state, if-accepted-either, heard-either, polled-by-state, poll-kept, call-kept, run-from}
 
 -- ── what may come while pair q only repeats itself ──
@@ -33,7 +33,7 @@ Sync-again q (data-packet d) = pairs.key (d .cid) (d .universe) ≡ pairs.keyOf 
 Sync-again q (sync-packet y) = pairs.key (y .cid) (y .address) ≡ pairs.keyOf q → y .sequence ≡ q .sequence
 Sync-again q (discovery-packet a) = Unit {0}
 
--- such packets and polls, while q is live, and every other call but a reset; with any settings and any lent lengths
+-- such packets and polls, while q is live, and every other call but those that forget the pairs; with any settings and any lent lengths
 abbrev pub Call-again : (Pair → Packet → Type 0) → Pair → Call → Type 0
 Call-again Again q (on-packet m S now p) = (pairs.live now q ≡ true) × Again q p
 Call-again Again q (on-poll room S now) = pairs.live now q ≡ true
@@ -43,6 +43,8 @@ Call-again Again q (on-mute u) = Unit {0}
 Call-again Again q (on-ask u) = Unit {0}
 Call-again Again q (on-clear room u) = Unit {0}
 Call-again Again q on-clear-all = Unit {0}
+Call-again Again q on-reset-pairs = ⊥
+Call-again Again q on-reset-discovery = Unit {0}
 Call-again Again q on-reset = ⊥
 
 abbrev pub Calls-again : (Pair → Packet → Type 0) → Pair → List Call → Type 0
@@ -135,7 +137,7 @@ module _ {Again : Pair → Packet → Type 0} {q : Pair} {At : pairs.Table → p
     measured-stays p s (some n) k a h = h
 
   call-stays : (c : Call) (s : State) → Kept s → Call-again Again q c → Holds s → Holds (call c s)
-  unfolding call step poll-call expiry-call listen-call mute-call clear-call clear-all-call
+  unfolding call step poll-call expiry-call listen-call mute-call clear-call clear-all-call reset-discovery-call
   call-stays (on-packet m S now p) s k (l, a) h =
       found (too-short m)
       (λ e. rw (e, call, step) (measured-stays S now l p s (too-long p) k a h))
@@ -150,6 +152,8 @@ module _ {Again : Pair → Packet → Type 0} {q : Pair} {At : pairs.Table → p
   call-stays (on-ask u) s k a h = h
   call-stays (on-clear room u) s k a h = found (short waiting-bytes room) (λ e. rw (e, call, clear-call) h) (λ n e. rw (e, call, clear-call) h)
   call-stays on-clear-all s k a h = h
+  call-stays on-reset-pairs s k a h = absurd a
+  call-stays on-reset-discovery s k a h = h
   call-stays on-reset s k a h = absurd a
 
   run-stays : (cs : List Call) (s : State) → Kept s → Calls-again Again q cs → Holds s → Holds (run cs s)

@@ -492,6 +492,15 @@ pub check-polled : (limit : SourceLimit) (announce : Bool) (p : Pair) (t : Table
     → check limit announce p (sweep announce (p .reading) t .0) ≡ admit limit p (sweep announce (p .reading) t .0)
 check-polled limit announce p t h = check-quiet limit announce p _ _ (sweep-again announce (p .reading) t h)
 
+-- an empty table takes every arrival, whatever its sequence number, where the limit is not 0
+stop-empty : (limit : SourceLimit) (p : Pair) → reached limit 0 ≡ false → stop limit p empty ≡ none
+unfolding stop source-stop listed full find sequence-stop
+stop-empty limit p h = rw h
+
+pub check-empty : (limit : SourceLimit) (announce : Bool) (p : Pair) → reached limit 0 ≡ false → check limit announce p empty ≡ (recorded p empty, Accepted)
+unfolding any
+check-empty limit announce p h = check-quiet limit announce p empty empty (sweep-fresh announce (p .reading) empty good-empty refl) ∙ admit-stored limit p empty (stop-empty limit p h)
+
 pub ordered-check : (limit : SourceLimit) (announce : Bool) (p : Pair) (t : Table) → Ordered t → Ordered (check limit announce p t .0)
 ordered-check limit announce p t o =
     let s = ordered-sweep announce (p .reading) t o in

@@ -43,8 +43,8 @@ use Rattle.model.specs.declared.MuteAnswer.the-variants as muting
 use Rattle.model.specs.declared.ClearAnswer.the-variants as clearing
 use Rattle.model.specs.Answer.{pollNumber, expiryNumber, listenNumber, muteNumber, clearNumber}
 use Rattle.model.specs.State.{State, listens}
-use Rattle.model.specs.Step.{short, waiting-bytes, page-bytes, poll, with-waiting, with-listened, with-discovered}
-use Rattle.model.specs.Calls.{polled-by, poll-call, expiry-call, listen-call, muted, mute-call, clear-call, clear-all-call, reset-call}
+use Rattle.model.specs.Step.{short, waiting-bytes, page-bytes, poll, with-data, with-sync, with-waiting, with-listened, with-discovered}
+use Rattle.model.specs.Calls.{polled-by, poll-call, expiry-call, listen-call, muted, mute-call, clear-call, clear-all-call, reset-pairs-call, reset-discovery-call, reset-call}
 use Rattle.timeouts.specs.View.{Polls}
 use Rattle.listening.specs.Laws.{refused-list}
 use Rattle.receiver.specs.declared.Receiver.{Receiver}
@@ -253,18 +253,12 @@ clears-all r w m e = record {
   };
 }
 
--- ── all sources ──
-pub resets : (r : Receiver) (q : SequenceNumbering) (d : Discovery) (m : Memory) → sequences.Emptied q → Emptied d
-    → Becomes reset-call r (record { sequences = q; waiting = r .waiting; listened = r .listened; discovery = d }) m
-unfolding reset-call
-resets r q d m a e = record {
-  state-is = λ i. record {
-    data-pairs = a .no-data .is-empty (m .data-pairs) (m .data-sources) i;
-    sync-pairs = a .no-sync .is-empty (m .sync-pairs) (m .sync-sources) i;
-    waiting = stateOf r m .waiting;
-    listened = stateOf r m .listened;
-    discovered = e .unknown (m .sources) (m .names) (m .pages) (m .universes) i;
-  };
+-- ── the sources: each half, and the two in turn ──
+pub resets-pairs : (r : Receiver) (q : SequenceNumbering) (m : Memory) → sequences.Emptied q
+    → Becomes reset-pairs-call r (record { sequences = q; waiting = r .waiting; listened = r .listened; discovery = r .discovery }) m
+unfolding reset-pairs-call
+resets-pairs r q m a = record {
+  state-is = λ i. with-sync (a .no-sync .is-empty (m .sync-pairs) (m .sync-sources) i) (with-data (a .no-data .is-empty (m .data-pairs) (m .data-sources) i) (stateOf r m));
   kept = λ k.
       let x = k .kept-sequences .kept-data in
       let y = k .kept-sequences .kept-sync in
@@ -275,6 +269,26 @@ resets r q d m a e = record {
         };
         kept-waiting = k .kept-waiting;
         kept-listened = k .kept-listened;
-        kept-discovery = λ h. let z = k .kept-discovery h in e .kept (m .sources) (m .names) (m .pages) (m .universes) (z .source-rows) (z .name-rows) (z .packing .rows) h;
+        kept-discovery = k .kept-discovery;
       };
+}
+
+pub resets-discovery : (r : Receiver) (d : Discovery) (m : Memory) → Emptied d
+    → Becomes reset-discovery-call r (record { sequences = r .sequences; waiting = r .waiting; listened = r .listened; discovery = d }) m
+unfolding reset-discovery-call
+resets-discovery r d m e = record {
+  state-is = λ i. with-discovered (e .unknown (m .sources) (m .names) (m .pages) (m .universes) i) (stateOf r m);
+  kept = λ k. record {
+    kept-sequences = k .kept-sequences;
+    kept-waiting = k .kept-waiting;
+    kept-listened = k .kept-listened;
+    kept-discovery = λ h. let z = k .kept-discovery h in e .kept (m .sources) (m .names) (m .pages) (m .universes) (z .source-rows) (z .name-rows) (z .packing .rows) h;
+  };
+}
+
+pub resets : (r p q : Receiver) (m : Memory) → Becomes reset-pairs-call r p m → Becomes reset-discovery-call p q m → Becomes reset-call r q m
+unfolding reset-call
+resets r p q m a b = record {
+  state-is = b .state-is ∙ ap reset-discovery-call (a .state-is);
+  kept = λ k. b .kept (a .kept k);
 }

@@ -5,7 +5,7 @@ ghost use Rattle.listening.specs.View as listening;
 ghost use Rattle.sequences.specs.View as sequences;
 ghost use Rattle.model.specs.Answer.{pollNumber, expiryNumber, listenNumber, muteNumber, clearNumber};
 ghost use Rattle.model.specs.State.{listens};
-ghost use Rattle.model.specs.Calls.{poll-call, expiry-call, listen-call, mute-call, clear-call, clear-all-call, reset-call};
+ghost use Rattle.model.specs.Calls.{poll-call, expiry-call, listen-call, mute-call, clear-call, clear-all-call, reset-pairs-call, reset-discovery-call, reset-call};
 ghost use Rattle.lengths.specs.Space.{bytes};
 ghost use Rattle.laws.specs.Lent.{untouched};
 ghost use Rattle.receiver.specs.View.{Memory, with-listened-rows, stateOf, reading-noted, KeptWaiting, KeptDiscovery, Kept, Begins, Does, Becomes};
@@ -327,15 +327,31 @@ impl Receiver {
         }
     }
 
-    // Both pair tables and both discovery lists are forgotten; waiting data stays.
-    pub fn reset_sources(self) -> Receiver
-        ensures { λ r. ⌜ ((m : Memory) → Becomes reset-call self r m) ⌝ }
+    // Both pair tables are forgotten, with the CIDs that count as sources; the discovery lists and waiting data stay.
+    pub fn reset_pairs(self) -> Receiver
+        ensures { λ r. ⌜ ((m : Memory) → Becomes reset-pairs-call self r m) ⌝ }
     {
         let q = self.sequences;
         let waiting = self.waiting;
         let listened = self.listened;
-        let d = self.discovery;
+        let discovery = self.discovery;
         let sequences = q.clear();
+        Receiver {
+            sequences,
+            waiting,
+            listened,
+            discovery,
+        }
+    }
+
+    // Both discovery lists are forgotten; the pair tables and waiting data stay.
+    pub fn reset_discovery(self) -> Receiver
+        ensures { λ r. ⌜ ((m : Memory) → Becomes reset-discovery-call self r m) ⌝ }
+    {
+        let sequences = self.sequences;
+        let waiting = self.waiting;
+        let listened = self.listened;
+        let d = self.discovery;
         let discovery = d.clear();
         Receiver {
             sequences,
@@ -343,5 +359,13 @@ impl Receiver {
             listened,
             discovery,
         }
+    }
+
+    // The two in turn.
+    pub fn reset_sources(self) -> Receiver
+        ensures { λ r. ⌜ ((m : Memory) → Becomes reset-call self r m) ⌝ }
+    {
+        let pairless = self.reset_pairs();
+        pairless.reset_discovery()
     }
 }

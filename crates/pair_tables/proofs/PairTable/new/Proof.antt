@@ -3,14 +3,16 @@
 use mathlib.Core.Path.{refl}
 use Rattle.laws.specs.Table.{any}
 use native.Mathlib.Omega.{arith}
+use Rattle.pair_rows.specs.View.{lower}
 use Rattle.pair_tables.proofs.PairTable.new.Statement.{statement}
 use Rattle.pair_tables.proofs.PairTable.new.Tie as tie
 
 returns : tie.Need-returns
-unfolding any
+unfolding any lower
 returns c =
     record {
       is-empty = λ pairs sources. refl;
+      noted-so = λ pairs sources. refl;
       kept = λ pairs sources p s. record {
         pairs-room = p;
         sources-room = s;
