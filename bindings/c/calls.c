@@ -119,6 +119,14 @@ static void show_sources(void) {
     printf("  no more sources\n");
 }
 
+/* The whole state. */
+static void show_state(void) {
+    show_pairs();
+    show_listened();
+    show_waiting();
+    show_sources();
+}
+
 static void show_settings(void) {
     const tamburelvi_settings *s = &receiver.settings;
     printf("  settings: %d %d %d %d %d %d\n", s->process_preview_data, s->announce_source_discovery,
@@ -205,12 +213,14 @@ static void unmade(const char *which, tamburelvi_receiver *q) {
     uint16_t universe;
     memset(&y, 0, sizeof y);
     memset(&source, 0, sizeof source);
-    printf("%s: %d %d %d %d %d %d %d %d %d %d", which, tamburelvi_receiver_handle_data_packet(q, 0, &d, out, sizeof out).number,
+    printf("%s: %d %d %d %d %d %d %d %d %d %d %d %d", which,
+        tamburelvi_receiver_handle_data_packet(q, 0, &d, out, sizeof out).number,
         tamburelvi_receiver_handle_sync_packet(q, 0, &y, out, sizeof out).number,
         tamburelvi_receiver_handle_universe_discovery_packet(q, 0, &g, out, sizeof out).number,
         tamburelvi_receiver_poll(q, 0).number, tamburelvi_receiver_remove_expired_sources(q, 0).number,
         tamburelvi_receiver_listen_universes(q, list, 1).number, tamburelvi_receiver_mute_universe(q, 1).number,
         tamburelvi_receiver_clear_waiting_data(q, 1).number, tamburelvi_receiver_clear_all_waiting_data(q).number,
+        tamburelvi_receiver_reset_pairs(q).number, tamburelvi_receiver_reset_discovery(q).number,
         tamburelvi_receiver_reset_sources(q).number);
     printf(", settings %d %d %d %d %d %d %d %d", tamburelvi_receiver_fresh_settings(q).number,
         tamburelvi_receiver_set_process_preview_data(q, true).number,
@@ -286,10 +296,7 @@ static void unmade_packets(void) {
         tamburelvi_receiver_sync_source(r, 0, NULL), tamburelvi_receiver_listened(r, 0, NULL),
         tamburelvi_receiver_waiting(r, 0, NULL), tamburelvi_receiver_source_at(r, TAMBURELVI_LISTED, 0, NULL),
         tamburelvi_receiver_page_at(r, NULL, 0, NULL), tamburelvi_receiver_page_at(r, &source, 0, NULL));
-    show_pairs();
-    show_listened();
-    show_waiting();
-    show_sources();
+    show_state();
 }
 
 /* 'Further calls': all are tested for 2 before any is added; muting gives 2, then 3. */
@@ -333,7 +340,7 @@ static void unsynchronised(void) {
     show_release("no values, by their length", take(1050, d));
     show("universe 2, not listened to", take(1050, data(0x11, 2, 0, 3, 2)));
     show_pairs();
-    show("reset", tamburelvi_receiver_reset_sources(r));
+    show("reset pairs", tamburelvi_receiver_reset_pairs(r));
 }
 
 /* Step 3 with an address, step 4; 'Merging': the larger value at each place, the longer tail, no CID, the earlier reading. */
@@ -400,7 +407,7 @@ static void limit(void) {
 /* Age 2,499 is live, 2,500 expired; a repeat renews nothing; the data table is swept before the sync table; the packet of a
  * step that gave 4 was not taken. */
 static void timeouts(void) {
-    show("reset", tamburelvi_receiver_reset_sources(r));
+    show("reset pairs", tamburelvi_receiver_reset_pairs(r));
     show_pairs();
     show("announce timeouts", tamburelvi_receiver_set_announce_timeout(r, true));
     show("A at 10,000", take(10000, data(0x30, 1, 0, 0, 2)));
@@ -458,6 +465,86 @@ static void discovery(void) {
     show_sources();
 }
 
+static bool same_header(tamburelvi_header a, tamburelvi_header b) {
+    return a.data_pairs == b.data_pairs && a.data_sources == b.data_sources && a.data_oldest == b.data_oldest &&
+        a.sync_pairs == b.sync_pairs && a.sync_sources == b.sync_sources && a.sync_oldest == b.sync_oldest &&
+        a.waiting == b.waiting && a.listened == b.listened && a.sources == b.sources && a.pages == b.pages &&
+        a.page_universes == b.page_universes && a.data_tidy == b.data_tidy && a.sync_tidy == b.sync_tidy;
+}
+
+/* The header with the discovered sources of another. */
+static tamburelvi_header discovered_as(tamburelvi_header h, tamburelvi_header other) {
+    h.sources = other.sources;
+    h.pages = other.pages;
+    h.page_universes = other.page_universes;
+    return h;
+}
+
+/* A listed source and a partial one, pairs in both tables, and data that waits. */
+static void settle(uint64_t reading) {
+    memcpy(name, "desk", 4);
+    show("A, page 0 of 0", take_page(reading, page(0x30, 0, 0, 4, 2)));
+    memcpy(name, "rack", 4);
+    show("B, page 1 of 1", take_page(reading, page(0x40, 1, 1, 4, 1)));
+    show("A, sequence 5", take(reading, data(0x30, 1, 0, 5, 2)));
+    show("synchronisation of A, sequence 5", take_sync(reading, 0x30, 7, 5, sizeof out));
+    show("B under 7", take(reading, data(0x40, 7, 7, 9, 2)));
+    show_state();
+}
+
+/* The desk A after a restart: by its last number it repeats itself (5) or is late (4), in both tables. */
+static void restarted(uint64_t reading, uint8_t sequence) {
+    printf("A is restarted at %d\n", sequence);
+    show("data", take(reading, data(0x30, 1, 0, sequence, 2)));
+    show_release("synchronisation", take_sync(reading, 0x30, 7, sequence, sizeof out));
+}
+
+/* Document 02, F-2: each half of reset_sources leaves all that the other clears. What waits and what is listened to stays. */
+static void resets(void) {
+    tamburelvi_header h, paired, found, neither;
+    show("fresh settings", tamburelvi_receiver_fresh_settings(r));
+    settle(33000);
+    h = receiver.header;
+    paired = tamburelvi_reset_discovery(h);
+    found = tamburelvi_reset_pairs(h);
+    neither = tamburelvi_reset_sources(h);
+    printf("the two in turn: %d, the other way round: %d\n", same_header(tamburelvi_reset_discovery(found), neither),
+        same_header(tamburelvi_reset_pairs(paired), neither));
+    printf("reset_pairs leaves the discovered sources: %d, reset_discovery leaves all but them: %d\n",
+        same_header(found, discovered_as(neither, h)), same_header(paired, discovered_as(h, neither)));
+
+    restarted(33001, 5);
+    restarted(33001, 4);
+    show("reset pairs", tamburelvi_receiver_reset_pairs(r));
+    show_state();
+    restarted(33002, 5);
+    show("reset pairs", tamburelvi_receiver_reset_pairs(r));
+    restarted(33003, 4);
+    show_pairs();
+    show("limit 1", tamburelvi_receiver_set_source_limit(r, 1));
+    show("B", take(33003, data(0x40, 1, 0, 0, 2)));
+    show("reset pairs", tamburelvi_receiver_reset_pairs(r));
+    show("B", take(33003, data(0x40, 1, 0, 0, 2)));
+    show("A", take(33003, data(0x30, 1, 0, 5, 2)));
+    show("announce timeouts", tamburelvi_receiver_set_announce_timeout(r, true));
+    show("reset pairs", tamburelvi_receiver_reset_pairs(r));
+    show("poll at 35,503", tamburelvi_receiver_poll(r, 35503));
+    show("fresh settings", tamburelvi_receiver_fresh_settings(r));
+
+    show("reset discovery", tamburelvi_receiver_reset_discovery(r));
+    settle(36000);
+    show("reset discovery", tamburelvi_receiver_reset_discovery(r));
+    show_state();
+    restarted(36001, 5);
+    restarted(36001, 4);
+    show("B, page 0 of 1", take_page(36001, page(0x40, 0, 1, 4, 1)));
+    show_sources();
+    show("B, page 1 of 1", take_page(36001, page(0x40, 1, 1, 4, 2)));
+    show_sources();
+    show("reset", tamburelvi_receiver_reset_sources(r));
+    show_state();
+}
+
 /* 1,024 pairs, 1,024 universes, 64 waiting, 64 pages, each and one more. */
 static void full(void) {
     tamburelvi_data_packet d = data(0, 1, 0, 0, 2);
@@ -472,7 +559,7 @@ static void full(void) {
     d.cid[0] = 255;
     printf("%u sources taken\n", taken);
     show("one more", take(40000, d));
-    show("reset", tamburelvi_receiver_reset_sources(r));
+    show("reset pairs", tamburelvi_receiver_reset_pairs(r));
     for (unsigned i = 0; i < 1100; i++) list[i] = (uint16_t)(i + 1);
     show("listen to 1 to 1,025", tamburelvi_receiver_listen_universes(r, list, 1025));
     show("listen to 1 to 1,024", tamburelvi_receiver_listen_universes(r, list, 1024));
@@ -482,6 +569,11 @@ static void full(void) {
     for (uint16_t u = 1; u <= 64; u++) taken += take(40000, data(0x11, u, 7, 1, 2)).number == TAMBURELVI_OK;
     printf("%u universes wait\n", taken);
     show("one more", take(40000, data(0x11, 65, 7, 1, 2)));
+    taken = 0;
+    for (uint8_t i = 1; i <= 64; i++) taken += take_page(40000, page(i, 0, 0, 4, 512)).number == TAMBURELVI_OK;
+    printf("%u pages taken\n", taken);
+    show("one more", take_page(40000, page(65, 0, 0, 4, 1)));
+    show("reset discovery", tamburelvi_receiver_reset_discovery(r));
     taken = 0;
     for (uint8_t i = 1; i <= 64; i++) taken += take_page(40000, page(i, 0, 0, 4, 512)).number == TAMBURELVI_OK;
     printf("%u pages taken\n", taken);
@@ -644,6 +736,8 @@ int main(void) {
     timeouts();
     printf("-- discovery\n");
     discovery();
+    printf("-- resets\n");
+    resets();
     printf("-- full tables\n");
     full();
     printf("-- the library's functions\n");

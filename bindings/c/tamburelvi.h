@@ -627,7 +627,28 @@ tamburelvi_reply tamburelvi_clear_waiting_data(
 tamburelvi_header tamburelvi_clear_all_waiting_data(tamburelvi_header header);
 
 /**
- * @brief Forgets both pair tables and all discovered sources; waiting data stays.
+ * @brief Forgets both pair tables: the numbering of all sources. Discovered sources, waiting data and listened universes stay.
+ *
+ * For a desk that was restarted and numbers its packets anew: the next packet of every source, on each universe and each
+ * synchronisation address, is neither late (7) nor a repeat (21), whatever its number. Sources are counted anew towards the
+ * source limit, in the order in which their packets come, and one that stays silent no longer times out (4). Names and pages
+ * stay on the list of sources.
+ * @param header The receiver's header.
+ * @return The next header.
+ */
+tamburelvi_header tamburelvi_reset_pairs(tamburelvi_header header);
+
+/**
+ * @brief Forgets both lists of discovered sources. Pair tables, waiting data and listened universes stay.
+ *
+ * The list of sources is built anew from the next announcements, the discovery packets. All 64 pages are free again (13).
+ * @param header The receiver's header.
+ * @return The next header.
+ */
+tamburelvi_header tamburelvi_reset_discovery(tamburelvi_header header);
+
+/**
+ * @brief tamburelvi_reset_pairs, then tamburelvi_reset_discovery: the two in turn. Waiting data and listened universes stay.
  * @param header The receiver's header.
  * @return The next header.
  */
@@ -1301,7 +1322,37 @@ static inline tamburelvi_answer tamburelvi_receiver_clear_all_waiting_data(tambu
 }
 
 /**
- * @brief Forgets both pair tables and all discovered sources; waiting data stays.
+ * @brief Forgets both pair tables: the numbering of all sources. Discovered sources, waiting data and listened universes stay.
+ *
+ * For a desk that was restarted and numbers its packets anew: the next packet of every source, on each universe and each
+ * synchronisation address, is neither late (7) nor a repeat (21), whatever its number. Sources are counted anew towards the
+ * source limit, in the order in which their packets come, and one that stays silent no longer times out (4). Names and pages
+ * stay on the list of sources.
+ * @param receiver The receiver.
+ * @return 0, 254 or 255.
+ */
+static inline tamburelvi_answer tamburelvi_receiver_reset_pairs(tamburelvi_receiver *receiver) {
+    uint8_t fault = tamburelvi_inner_fault(receiver);
+    if (!fault) receiver->header = tamburelvi_reset_pairs(receiver->header);
+    return tamburelvi_inner_bare(fault);
+}
+
+/**
+ * @brief Forgets both lists of discovered sources. Pair tables, waiting data and listened universes stay.
+ *
+ * The list of sources is built anew from the next announcements, the discovery packets. All 64 pages are free again (13).
+ * @param receiver The receiver.
+ * @return 0, 254 or 255.
+ */
+static inline tamburelvi_answer tamburelvi_receiver_reset_discovery(tamburelvi_receiver *receiver) {
+    uint8_t fault = tamburelvi_inner_fault(receiver);
+    if (!fault) receiver->header = tamburelvi_reset_discovery(receiver->header);
+    return tamburelvi_inner_bare(fault);
+}
+
+/**
+ * @brief tamburelvi_receiver_reset_pairs, then tamburelvi_receiver_reset_discovery: the two in turn. Waiting data and listened
+ * universes stay.
  * @param receiver The receiver.
  * @return 0, 254 or 255.
  */

@@ -303,6 +303,10 @@ unsafe extern "C" {
 
     pub safe fn tamburelvi_clear_all_waiting_data(header: Header) -> Header;
 
+    pub safe fn tamburelvi_reset_pairs(header: Header) -> Header;
+
+    pub safe fn tamburelvi_reset_discovery(header: Header) -> Header;
+
     pub safe fn tamburelvi_reset_sources(header: Header) -> Header;
 
     pub safe fn tamburelvi_fresh_settings() -> Settings;

@@ -203,7 +203,24 @@ impl Receiver {
         self.state.clear_all_waiting_data();
     }
 
-    /// Forgets both pair tables and both discovery lists; waiting data and listened universes stay.
+    /// Forgets both pair tables: the numbering of all sources. Discovered sources, waiting data and listened universes stay.
+    ///
+    /// For a desk that was restarted and numbers its packets anew: the next packet of every source, on each universe and each synchronisation address, is
+    /// neither late (7) nor a repeat (21), whatever its number. Sources are counted anew towards the source limit, in the order in which their packets come,
+    /// and one that stays silent no longer times out (4). Names and pages stay on the list of sources.
+    pub fn reset_pairs(&mut self) {
+        self.state.reset_pairs();
+    }
+
+    /// Forgets both lists of discovered sources. Pair tables, waiting data and listened universes stay.
+    ///
+    /// The list of sources is built anew from the next announcements, the discovery packets. All 64 pages are free again (13).
+    pub fn reset_discovery(&mut self) {
+        self.state.reset_discovery();
+    }
+
+    /// [`reset_pairs`](Receiver::reset_pairs), then [`reset_discovery`](Receiver::reset_discovery): the two in turn. Waiting data and listened universes
+    /// stay.
     pub fn reset_sources(&mut self) {
         self.state.reset_sources();
     }

@@ -311,6 +311,14 @@ impl State {
         self.header = ffi::tamburelvi_clear_all_waiting_data(self.header);
     }
 
+    pub fn reset_pairs(&mut self) {
+        self.header = ffi::tamburelvi_reset_pairs(self.header);
+    }
+
+    pub fn reset_discovery(&mut self) {
+        self.header = ffi::tamburelvi_reset_discovery(self.header);
+    }
+
     pub fn reset_sources(&mut self) {
         self.header = ffi::tamburelvi_reset_sources(self.header);
     }

@@ -163,9 +163,66 @@ fn forgetting() {
     released(receiver.handle_data_packet(0, &waits));
     assert!(receiver.clear_waiting_data(1) && !receiver.clear_waiting_data(1));
     assert_eq!(receiver.data_pairs().len(), 1);
-    receiver.reset_sources();
+    receiver.reset_pairs();
     assert_eq!(receiver.data_pairs().len(), 0);
     released(receiver.handle_data_packet(0, &waits));
     receiver.clear_all_waiting_data();
     assert_eq!(receiver.waiting_data().len(), 0);
+}
+
+#[test]
+fn a_desk_is_restarted() {
+    let mut receiver = Receiver::new();
+    receiver.listen_universes(&[1, 7]).unwrap();
+    let page = DiscoveryPacket {
+        cid: Cid([1; 16]),
+        page: 0,
+        last_page: 0,
+        name: b"a desk",
+        universes: &[1],
+    };
+    receiver.handle_universe_discovery_packet(0, &page).unwrap();
+    let sync = |sequence| SyncPacket {
+        cid: Cid([1; 16]),
+        address: 7,
+        sequence,
+    };
+    assert_eq!(
+        released(receiver.handle_data_packet(0, &packet(1, 1, 5, &[0]))).len(),
+        1
+    );
+    assert!(released(receiver.handle_sync_packet(0, &sync(5))).is_empty());
+    // By the numbering before the restart 5 is a repeat and 4 is late.
+    for (sequence, number) in [(5, 21), (4, 7)] {
+        let data = packet(1, 1, sequence, &[0]);
+        let stop = |step: Result<Step, Stop>| step.map(|_| ()).unwrap_err().number();
+        assert_eq!(stop(receiver.handle_data_packet(0, &data)), number);
+        assert_eq!(
+            stop(receiver.handle_sync_packet(0, &sync(sequence))),
+            number
+        );
+        let mut anew = receiver.clone();
+        anew.reset_pairs();
+        assert_eq!(released(anew.handle_data_packet(0, &data)).len(), 1);
+        assert!(released(anew.handle_sync_packet(0, &sync(sequence))).is_empty());
+        let listed: Vec<_> = anew.listed_sources().map(|s| (s.cid, s.name)).collect();
+        assert_eq!(listed, [(Cid([1; 16]), &b"a desk"[..])]);
+    }
+    // The source limit is counted anew, by who comes first.
+    receiver.set_source_limit(Some(1)).unwrap();
+    receiver.reset_pairs();
+    assert_eq!(
+        released(receiver.handle_data_packet(0, &packet(2, 1, 0, &[0]))).len(),
+        1
+    );
+    assert_eq!(
+        receiver
+            .handle_data_packet(0, &packet(1, 1, 0, &[0]))
+            .map(|_| ()),
+        Err(Stop::SourcesExceeded(1))
+    );
+    // What is forgotten does not time out.
+    receiver.set_announce_timeout(true);
+    receiver.reset_pairs();
+    assert_eq!(receiver.poll(2500), Ok(()));
 }

@@ -271,9 +271,22 @@ impl Run {
                 self.receiver.clear_all_waiting_data();
                 self.line("clear_all".into(), "0".into());
             }
-            8 if r.chance(8) => {
-                self.receiver.reset_sources();
-                self.line("reset".into(), "0".into());
+            8 if r.chance(5) => {
+                let command = match r.below(3) {
+                    0 => {
+                        self.receiver.reset_pairs();
+                        "reset_pairs"
+                    }
+                    1 => {
+                        self.receiver.reset_discovery();
+                        "reset_discovery"
+                    }
+                    _ => {
+                        self.receiver.reset_sources();
+                        "reset"
+                    }
+                };
+                self.line(command.into(), "0".into());
             }
             _ => {}
         }

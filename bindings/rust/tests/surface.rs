@@ -46,8 +46,8 @@ fn stop(step: Result<Step, Stop>) -> Stop {
     step.map(|_| ()).unwrap_err()
 }
 
-/// The whole state, by every read-out.
-fn read(r: &Receiver) -> String {
+/// Both pair tables, both lists of discovered sources, and the rest of the state, by every read-out.
+fn parts(r: &Receiver) -> [String; 3] {
     let sources = |all: &mut dyn Iterator<Item = tamburelvi::Source>| {
         all.map(|s| {
             (
@@ -57,17 +57,30 @@ fn read(r: &Receiver) -> String {
         })
         .collect::<Vec<_>>()
     };
-    format!(
-        "{r:?} {:?} {:?} {:?} {:?} {:?} {:?} {:?} {:?}",
-        r.data_pairs().collect::<Vec<_>>(),
-        r.data_sources().collect::<Vec<_>>(),
-        r.sync_pairs().collect::<Vec<_>>(),
-        r.sync_sources().collect::<Vec<_>>(),
-        r.listened_universes().collect::<Vec<_>>(),
-        r.waiting_data().collect::<Vec<_>>(),
-        sources(&mut r.partial_sources()),
-        sources(&mut r.listed_sources()),
-    )
+    [
+        format!(
+            "{:?} {:?} {:?} {:?}",
+            r.data_pairs().collect::<Vec<_>>(),
+            r.data_sources().collect::<Vec<_>>(),
+            r.sync_pairs().collect::<Vec<_>>(),
+            r.sync_sources().collect::<Vec<_>>(),
+        ),
+        format!(
+            "{:?} {:?}",
+            sources(&mut r.partial_sources()),
+            sources(&mut r.listed_sources()),
+        ),
+        format!(
+            "{:?} {:?}",
+            r.listened_universes().collect::<Vec<_>>(),
+            r.waiting_data().collect::<Vec<_>>(),
+        ),
+    ]
+}
+
+/// The whole state, by every read-out.
+fn read(r: &Receiver) -> String {
+    format!("{r:?} {:?}", parts(r))
 }
 
 // `?` in a function that returns a boxed error, for every call that can stop. What the discovery call is lent does not outlive its block.
@@ -399,6 +412,11 @@ fn every_number_that_can_be_given_is_given() {
         r.handle_universe_discovery_packet(0, &page(65, 0, 1)),
         Err(Stop::PagesFull)
     );
+    r.reset_discovery();
+    assert_eq!(
+        r.handle_universe_discovery_packet(0, &page(65, 0, 1)),
+        Ok(())
+    );
     // 12
     let mut r = listening(1..=65);
     for universe in 1..=64 {
@@ -475,6 +493,46 @@ fn a_clone_is_a_receiver_of_its_own() {
     let mut third = Receiver::new();
     third.clone_from(&second);
     assert_eq!(read(&third), after);
+}
+
+/// Each half of `reset_sources` leaves all that the other clears; what waits and what is listened to stays.
+#[test]
+fn each_half_leaves_what_the_other_clears() {
+    let mut all = listening([1, 7]);
+    let [no_pairs, no_sources, none_waits] = parts(&all);
+    let _ = all.handle_data_packet(10, &data(1, 1, 5)).unwrap();
+    let _ = all.handle_sync_packet(10, &SYNC).unwrap();
+    let _ = all.handle_data_packet(10, &waits(2, 7, 9)).unwrap();
+    for page in [page(3, 0, 0), page(4, 1, 1)] {
+        all.handle_universe_discovery_packet(10, &page).unwrap();
+    }
+    let [pairs, sources, rest] = parts(&all);
+    assert!(pairs != no_pairs && sources != no_sources && rest != none_waits);
+
+    let (mut one, mut other, mut whole) = (all.clone(), all.clone(), all);
+    one.reset_pairs();
+    assert_eq!(parts(&one), [&no_pairs[..], &sources, &rest]);
+    other.reset_discovery();
+    assert_eq!(parts(&other), [&pairs[..], &no_sources, &rest]);
+    whole.reset_sources();
+    assert_eq!(parts(&whole), [&no_pairs[..], &no_sources, &rest]);
+
+    // The numbering stands where the sources alone were forgotten, and they are listed anew.
+    let mut listed = other.clone();
+    assert_eq!(
+        stop(listed.handle_data_packet(10, &data(1, 1, 5))).number(),
+        21
+    );
+    assert_eq!(stop(listed.handle_sync_packet(10, &SYNC)).number(), 21);
+    listed
+        .handle_universe_discovery_packet(10, &page(4, 0, 0))
+        .unwrap();
+    assert_eq!(listed.listed_sources().count(), 1);
+
+    // Both, in either order, are the whole.
+    one.reset_discovery();
+    other.reset_pairs();
+    assert_eq!([read(&one), read(&other)], [read(&whole), read(&whole)]);
 }
 
 #[test]

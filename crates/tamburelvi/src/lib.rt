@@ -7,7 +7,7 @@ ghost use Rattle.sequences.specs.View as sequences;
 ghost use Rattle.model.specs.Packet.{data-packet, sync-packet, discovery-packet};
 ghost use Rattle.model.specs.Answer.{pollNumber, pollValues, expiryNumber, expiryValues, listenNumber, listenValues, muteNumber, muteValues, clearNumber, clearValues};
 ghost use Rattle.model.specs.State.{listens};
-ghost use Rattle.model.specs.Calls.{poll-call, expiry-call, listen-call, mute-call, clear-call, clear-all-call, reset-call};
+ghost use Rattle.model.specs.Calls.{poll-call, expiry-call, listen-call, mute-call, clear-call, clear-all-call, reset-pairs-call, reset-discovery-call, reset-call};
 ghost use Rattle.lengths.specs.Space.{bytes};
 ghost use Rattle.laws.specs.Lent.{untouched};
 ghost use Rattle.receiver.specs.View.{Memory, with-listened-rows, stateOf, KeptWaiting, KeptDiscovery, Kept, Begins, Becomes};
@@ -369,7 +369,27 @@ pub extern "C" fn tamburelvi_clear_all_waiting_data(header: Header) -> Header
     header_of(left)
 }
 
-// Forgets both pair tables and both discovery lists; waiting data stays.
+// Forgets both pair tables; the discovery lists and waiting data stay.
+#[no_mangle]
+pub extern "C" fn tamburelvi_reset_pairs(header: Header) -> Header
+    ensures { λ r. ⌜ ((m : Memory) → Becomes reset-pairs-call (receiverOf header) (receiverOf r) m) ⌝ }
+{
+    let receiver = receiver_of(header);
+    let left = receiver.reset_pairs();
+    header_of(left)
+}
+
+// Forgets both discovery lists; the pair tables and waiting data stay.
+#[no_mangle]
+pub extern "C" fn tamburelvi_reset_discovery(header: Header) -> Header
+    ensures { λ r. ⌜ ((m : Memory) → Becomes reset-discovery-call (receiverOf header) (receiverOf r) m) ⌝ }
+{
+    let receiver = receiver_of(header);
+    let left = receiver.reset_discovery();
+    header_of(left)
+}
+
+// The two in turn.
 #[no_mangle]
 pub extern "C" fn tamburelvi_reset_sources(header: Header) -> Header
     ensures { λ r. ⌜ ((m : Memory) → Becomes reset-call (receiverOf header) (receiverOf r) m) ⌝ }
