@@ -108,6 +108,16 @@ impl Replay {
                 r.reset_sources();
                 Ok(Done::Nothing)
             }
+            // Document 02, F-2: the crate has no halves; each is what `reset_sources` does to its fields.
+            Command::ResetPairs => {
+                r.sequences.clear();
+                Ok(Done::Nothing)
+            }
+            Command::ResetDiscovery => {
+                r.partially_discovered_sources.clear();
+                r.discovered_sources.clear();
+                Ok(Done::Nothing)
+            }
             Command::Data(packet) => poll(r, packet.now).and_then(|()| data(r, packet)),
             Command::Sync(packet) => poll(r, packet.now).and_then(|()| sync(r, packet)),
             Command::Discovery(packet) => match poll(r, packet.now) {

@@ -43,6 +43,8 @@ pub enum Command {
     Clear(u16),
     ClearAll,
     Reset,
+    ResetPairs,
+    ResetDiscovery,
     Data(Data),
     Sync(Sync),
     Discovery(Discovery),
@@ -75,6 +77,8 @@ pub fn parse(line: &str) -> Option<Command> {
         ["clear", u] => Command::Clear(number(u)?),
         ["clear_all"] => Command::ClearAll,
         ["reset"] => Command::Reset,
+        ["reset_pairs"] => Command::ResetPairs,
+        ["reset_discovery"] => Command::ResetDiscovery,
         ["dump"] => Command::Dump,
         [
             "data",

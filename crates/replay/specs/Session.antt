@@ -16,12 +16,14 @@ use Rattle.model.specs.Packet.{Packet, data-packet, sync-packet, discovery-pack
 use Rattle.model.specs.State.{State, listens}
 use Rattle.model.specs.State as model
 use Rattle.model.specs.Step.{Space, step}
-use Rattle.model.specs.Calls.{poll-call, expiry-call, listen-call, mute-call, clear-call, clear-all-call, reset-call}
+use Rattle.model.specs.Calls.{poll-call, expiry-call, listen-call, mute-call, clear-call, clear-all-call, reset-pairs-call, reset-discovery-call, reset-call}
 use Rattle.model.specs.Answer.{pollNumber, pollValues, expiryNumber, expiryValues, listenNumber, listenValues, muteNumber, muteValues, clearNumber, clearValues}
 use Rattle.receiver.specs.declared.Receiver.{Receiver}
 use Rattle.discovery.specs.Discovery.{pool-length}
 use Rattle.receiver.specs.View.{Memory, stateOf, spaceIn, Kept}
 use Rattle.packets.specs.View.{announcementOf}
+use Rattle.script.specs.declared.parse.Reset.{Reset}
+use Rattle.script.specs.declared.parse.Reset.the-variants as resets
 use Rattle.script.specs.declared.parse.Command.{Command}
 use Rattle.script.specs.declared.parse.Command.the-variants as says
 use Rattle.script.specs.declared.parse.Setting.{Setting}
@@ -63,6 +65,12 @@ called call number values S s = outcome S (call s .0) (answerLine (number (call 
 abbrev pub changed : (State → State) → Settings → State → Outcome
 changed call S s = outcome S (call s) (answerLine 0 [])
 
+-- "`reset_pairs`, `reset_discovery`: the halves of `reset`"
+abbrev pub resetting : Reset → State → State
+resetting resets.Sources s = reset-call s
+resetting resets.Pairs s = reset-pairs-call s
+resetting resets.Discovery s = reset-discovery-call s
+
 abbrev pub asked : ℕ → Settings → State → Outcome
 asked u S s = outcome S s (flagLine (listens u (s .listened)))
 
@@ -100,7 +108,7 @@ carried m output bs us (says.Poll now) S s = called (poll-call (length (m .store
 carried m output bs us (says.Sweep now) S s = called (expiry-call (bytes (m .universes)) now) expiryNumber expiryValues S s
 carried m output bs us (says.Clear u) S s = called (clear-call (length (m .store)) u) clearNumber clearValues S s
 carried m output bs us says.ClearAll S s = changed clear-all-call S s
-carried m output bs us says.Reset S s = changed reset-call S s
+carried m output bs us (says.Reset x) S s = changed (resetting x) S s
 carried m output bs us (says.Data l) S s =
     stepped (spaceIn m output) output [] (l .now) (data-packet (packetOf (l .packet) (take (l .count) bs))) S s
 carried m output bs us (says.Sync l) S s = stepped (spaceIn m output) output [] (l .now) (sync-packet (syncOf (l .packet))) S s

@@ -62,7 +62,7 @@ Counted (says.Poll n) bs us = Unit {0}
 Counted (says.Sweep n) bs us = Unit {0}
 Counted (says.Clear u) bs us = Unit {0}
 Counted says.ClearAll bs us = Unit {0}
-Counted says.Reset bs us = Unit {0}
+Counted (says.Reset x) bs us = Unit {0}
 Counted (says.Sync l) bs us = Unit {0}
 Counted says.Dump bs us = Unit {0}
 
@@ -103,7 +103,9 @@ lone-counts s =
     split (eql s (ascii "fresh")) (λ e. rw e tt) (λ e.
     rw e (split (eql s (ascii "clear_all")) (λ f. rw f tt) (λ f.
     rw f (split (eql s (ascii "reset")) (λ g. rw g tt) (λ g.
-    rw g (split (eql s (ascii "dump")) (λ h. rw h tt) (λ h. rw h tt)))))))
+    rw g (split (eql s (ascii "reset_pairs")) (λ h. rw h tt) (λ h.
+    rw h (split (eql s (ascii "reset_discovery")) (λ i. rw i tt) (λ i.
+    rw i (split (eql s (ascii "dump")) (λ j. rw j tt) (λ j. rw j tt)))))))))))
 
 sequence-counts : (t : Stamp) (a : ℕ) (x : Octet) → Counts (plain (sync-sequence t a x))
 sequence-counts t a (octet.Of q) = tt
@@ -195,7 +197,7 @@ module _ (m : Memory) (output : List ℕ) (S : Settings) (s : State) where
   alike (says.Sweep n) bs us cs vs h p q = refl
   alike (says.Clear u) bs us cs vs h p q = refl
   alike says.ClearAll bs us cs vs h p q = refl
-  alike says.Reset bs us cs vs h p q = refl
+  alike (says.Reset x) bs us cs vs h p q = refl
   alike (says.Sync l) bs us cs vs h p q = refl
   alike says.Dump bs us cs vs h p q = refl
 

@@ -11,14 +11,14 @@ ghost use Rattle.discovery_calls.specs.View as discovery;
 ghost use Rattle.lengths.specs.Space.{bytes};
 ghost use Rattle.packets.specs.View.{packetOf, syncOf};
 ghost use Rattle.model.specs.Packet.{data-packet, sync-packet, discovery-packet};
-ghost use Rattle.model.specs.Calls.{poll-call, expiry-call, listen-call, mute-call, clear-call, clear-all-call, reset-call};
+ghost use Rattle.model.specs.Calls.{poll-call, expiry-call, listen-call, mute-call, clear-call, clear-all-call};
 ghost use Rattle.model.specs.Answer.{pollNumber, pollValues, expiryNumber, expiryValues, listenNumber, listenValues, muteNumber, muteValues, clearNumber, clearValues};
 ghost use Rattle.receiver.specs.Contracts.{lent, lent-in};
 ghost use Rattle.discovery.specs.Discovery.{pool-length};
-ghost use Rattle.receiver.specs.View.{Memory, memory, with-sequence-rows, with-waiting-rows, with-listened-rows, with-discovery-rows, stateOf, spaceIn, Kept};
+ghost use Rattle.receiver.specs.View.{Memory, memory, with-sequence-rows, with-waiting-rows, with-listened-rows, with-discovery-rows, stateOf, spaceIn, Kept, Becomes};
 ghost use Rattle.packets.specs.View.{announcementOf};
 ghost use Rattle.printing.specs.Text.{Ready};
-ghost use Rattle.replay.specs.Session.{begun, set-to, limited-to, called, changed, asked, stepped, Carries};
+ghost use Rattle.replay.specs.Session.{begun, set-to, limited-to, called, changed, resetting, asked, stepped, Carries};
 ghost use Rattle.model.specs.Step.{most-listened};
 use crate::dump::front_numbers;
 use discovery_rows::HeadRows;
@@ -43,6 +43,7 @@ use printing::answers::put_step;
 use receiver::Receiver;
 use script::parse::DataLine;
 use script::parse::PageLine;
+use script::parse::Reset;
 use script::parse::SyncLine;
 use settings::Settings;
 use waiting_store::EntryRows;
@@ -292,14 +293,24 @@ pub fn clear_all(session: Session, out: &mut [u8]) -> Session
     }
 }
 
-pub fn reset(session: Session, out: &mut [u8]) -> Session
+fn forget(receiver: Receiver, reset: Reset) -> Receiver
+    ensures { λ r. ⌜ ((m : Memory) → Becomes (resetting reset) receiver r m) ⌝ }
+{
+    match reset {
+        Reset::Sources => receiver.reset_sources(),
+        Reset::Pairs => receiver.reset_pairs(),
+        Reset::Discovery => receiver.reset_discovery(),
+    }
+}
+
+pub fn reset(session: Session, reset: Reset, out: &mut [u8]) -> Session
     requires { ⌜ Ready (session .at) (now out) ⌝ }
     ensures { λ r. ⌜ ((m : Memory) → Carries session m (now (out .entry))
-        (changed reset-call (session .settings) (stateOf (session .receiver) m)) r m (now (out .exit))) ⌝ }
+        (changed (resetting reset) (session .settings) (stateOf (session .receiver) m)) r m (now (out .exit))) ⌝ }
 {
     let r = session.receiver;
     let settings = session.settings;
-    let receiver = r.reset_sources();
+    let receiver = forget(r, reset);
     let at = put_number(out, session.at, 0);
     Session {
         receiver: receiver,

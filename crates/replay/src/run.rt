@@ -241,7 +241,7 @@ fn execute(
         Command::Fresh => begin(session, heard, out),
         Command::Set(setting) => adjust(session, setting, out),
         Command::ClearAll => clear_all(session, out),
-        Command::Reset => reset(session, out),
+        Command::Reset(what) => reset(session, what, out),
         Command::Error => refuse(session, out),
     }
 }

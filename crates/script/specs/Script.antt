@@ -27,6 +27,7 @@ use Rattle.script.specs.declared.parse.DataNumbers.{DataNumbers}
 use Rattle.script.specs.declared.parse.Numbered.{Numbered}
 use Rattle.script.specs.declared.parse.Numbered.the-variants as numbered
 use Rattle.script.specs.declared.parse.Setting.the-variants as sets
+use Rattle.script.specs.declared.parse.Reset.the-variants as resets
 use Rattle.script.specs.declared.parse.Command.{Command}
 use Rattle.script.specs.declared.parse.Command.the-variants as says
 use Rattle.script.specs.declared.parse.SettingWord.{SettingWord}
@@ -61,9 +62,11 @@ abbrev pub loneOf : List ℕ → Command
 loneOf w =
     cond (eql w (ascii "fresh")) says.Fresh
     (cond (eql w (ascii "clear_all")) says.ClearAll
-    (cond (eql w (ascii "reset")) says.Reset
+    (cond (eql w (ascii "reset")) (says.Reset resets.Sources)
+    (cond (eql w (ascii "reset_pairs")) (says.Reset resets.Pairs)
+    (cond (eql w (ascii "reset_discovery")) (says.Reset resets.Discovery)
     (cond (eql w (ascii "dump")) says.Dump
-    says.Error)))
+    says.Error)))))
 
 unfoldable pub settingWord : List ℕ → Word
 settingWord w =

@@ -59,6 +59,13 @@ pub enum Setting {
     Limit(u16),
 }
 
+// What a reset forgets: the sources altogether, or one half.
+pub enum Reset {
+    Sources,
+    Pairs,
+    Discovery,
+}
+
 pub enum Command {
     Error,
     Fresh,
@@ -71,7 +78,7 @@ pub enum Command {
     Sweep(u64),
     Clear(u16),
     ClearAll,
-    Reset,
+    Reset(Reset),
     Data(DataLine),
     Sync(SyncLine),
     Discovery(PageLine),
@@ -465,7 +472,13 @@ fn parse_lone(word: &[u8]) -> Command
         return Command::ClearAll;
     }
     if is_same(word, b"reset") {
-        return Command::Reset;
+        return Command::Reset(Reset::Sources);
+    }
+    if is_same(word, b"reset_pairs") {
+        return Command::Reset(Reset::Pairs);
+    }
+    if is_same(word, b"reset_discovery") {
+        return Command::Reset(Reset::Discovery);
     }
     if is_same(word, b"dump") {
         return Command::Dump;

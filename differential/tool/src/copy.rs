@@ -36,6 +36,12 @@ const POLL: (&str, &str) = (
     "self.sequences.check_timeouts(self.announce_timeout)?;\n        self.check_waiting_data_timeouts();\n",
 );
 
+/// All that `reset_sources` does: the driver's `reset_pairs` is the first line, its `reset_discovery` the other two.
+const RESET: (&str, &str) = (
+    "receive.rs",
+    "pub fn reset_sources(&mut self) {\n        self.sequences.clear();\n        self.partially_discovered_sources.clear();\n        self.discovered_sources.clear();\n    }\n",
+);
+
 const PUBLISHED: [&str; 3] = ["receive.rs", "packet.rs", "error.rs"];
 const DRIVER: [(&str, &str); 5] = [
     ("main.rs", "main.rs"),
@@ -96,6 +102,9 @@ fn test_copy(file: &str, published: &str) -> Result<String, String> {
         return Err(format!(
             "{file}: recv's two timeout checks are not as expected"
         ));
+    }
+    if file == RESET.0 && count(&text, RESET.1) != 1 {
+        return Err(format!("{file}: reset_sources is not as expected"));
     }
     Ok(text)
 }

@@ -1,4 +1,5 @@
-//! A recorded sample: short scripts that together see every number that the crate gives and every kind of dump line.
+//! A recorded sample: short scripts that together see every number that the crate gives, every kind of dump line, every reset
+//! over every table with something in it, and a synchronisation pair that outlives a termination.
 
 use crate::compare::{Answers, Side, concatenated, is_silent, number};
 use crate::scripts::{self, KINDS};
@@ -10,6 +11,10 @@ const MOST_BYTES: usize = 1_000_000;
 /// What every sample must have seen.
 const NUMBERS: [usize; 11] = [0, 2, 3, 4, 5, 6, 7, 8, 9, 14, 21];
 const MARKS: [&str; 11] = ["d", "dc", "y", "yc", "w", "l", "p", "pp", "q", "qp", "."];
+const RESETS: [&str; 3] = ["reset", "reset_pairs", "reset_discovery"];
+const TABLES: [&str; 5] = ["d", "y", "w", "p", "q"];
+const OUTLIVES: &str =
+    "a synchronisation pair outlives a termination of an unknown data pair, up to a dump";
 
 struct Candidate {
     script: Vec<String>,
@@ -50,7 +55,10 @@ pub fn choose(count: usize, reference: &Side) -> Result<(String, String), String
         }
     }
     let numbers = NUMBERS.iter().map(|n| format!("number {n}"));
-    for wanted in numbers.chain(MARKS.iter().map(|m| format!("line {m}"))) {
+    let marks = MARKS.iter().map(|m| format!("line {m}"));
+    let resets = RESETS.iter().flat_map(|r| TABLES.map(|t| found(r, t, 2)));
+    let outlives = [OUTLIVES.to_string()];
+    for wanted in numbers.chain(marks).chain(resets).chain(outlives) {
         if !seen.contains(&wanted) {
             return Err(format!("the sample lacks {wanted}"));
         }
@@ -77,11 +85,17 @@ fn candidates(
     let text = concatenated(&batch);
     let (a, b) = (reference.run(&text)?, limits.run(&text)?);
     let (mut of_crate, mut of_limits) = (Answers::new(&a), Answers::new(&b));
+    // The same scripts with a dump before each command.
+    let watched: Vec<Vec<String>> = batch.iter().map(|s| watched(s)).collect();
+    let c = reference.run(&concatenated(&watched))?;
+    let mut of_watched = Answers::new(&c);
     let mut found = Vec::new();
     for script in batch {
         let mut bytes = "fresh\n0\n".len();
         let mut features = BTreeSet::new();
         let mut same = of_crate.next("fresh") == of_limits.next("fresh");
+        of_watched.next("fresh");
+        let mut lasting = Vec::new();
         for command in &script {
             bytes += command.len() + 1;
             if is_silent(command) {
@@ -91,9 +105,14 @@ fn candidates(
             let (Some(x), Some(y)) = (of_crate.next(command), of_limits.next(command)) else {
                 return Err("a side ended early".into());
             };
+            let (Some(before), Some(_)) = (of_watched.next("dump"), of_watched.next(command))
+            else {
+                return Err("the watched run ended early".into());
+            };
             same &= x == y;
             bytes += x.len() + 1;
             note(command, x, &mut features);
+            note_found(command, before, &mut lasting, &mut features);
         }
         if same {
             found.push(Candidate {
@@ -104,6 +123,47 @@ fn candidates(
         }
     }
     Ok(found)
+}
+
+fn watched(script: &[String]) -> Vec<String> {
+    let commands = script.iter().filter(|c| !is_silent(c));
+    commands.flat_map(|c| ["dump".into(), c.clone()]).collect()
+}
+
+// A command that found so many lines of a table.
+fn found(command: &str, table: &str, lines: usize) -> String {
+    format!("{command} found {lines} {table}")
+}
+
+// What a command found: a reset or `clear_all` in each table, up to two lines; a termination of its own pairs; a dump the synchronisation
+// pairs that terminations of unknown data pairs had left.
+fn note_found<'a>(
+    command: &str,
+    before: &'a str,
+    lasting: &mut Vec<&'a str>,
+    features: &mut BTreeSet<String>,
+) {
+    let lines = |start: &str| before.lines().filter(|l| l.starts_with(start)).count();
+    if command == "clear_all" || RESETS.contains(&command) {
+        for table in TABLES {
+            features.insert(found(command, table, lines(&format!("{table} ")).min(2)));
+        }
+    }
+    let fields: Vec<&str> = command.split(' ').collect();
+    if let ["data", _, cid, universe, _, _, _, "64" | "96", _] = fields[..] {
+        let pair = |t| format!("{t} {cid} {universe} ");
+        let [data, sync] = ["d", "y"].map(|t| lines(&pair(t)));
+        features.insert(format!("termination found {data} d, {sync} y"));
+        if data == 0 {
+            lasting.extend(before.lines().filter(|l| l.starts_with(&pair("y"))));
+        }
+    }
+    if command == "dump" {
+        if before.lines().any(|l| lasting.contains(&l)) {
+            features.insert(OUTLIVES.into());
+        }
+        lasting.clear();
+    }
 }
 
 fn note(command: &str, answer: &str, features: &mut BTreeSet<String>) {

@@ -19,6 +19,8 @@ struct Choice {
     clear: usize,
     clear_all: usize,
     reset: usize,
+    reset_pairs: usize,
+    reset_discovery: usize,
     listen: usize,
     mute: usize,
     listening: usize,
@@ -63,6 +65,8 @@ const MIXED: Choice = Choice {
     clear: 2,
     clear_all: 1,
     reset: 1,
+    reset_pairs: 1,
+    reset_discovery: 1,
     listen: 2,
     mute: 2,
     listening: 1,
@@ -259,7 +263,6 @@ fn choice(kind: &str) -> Choice {
             sync: 1,
             discovery: 70,
             sweep: 6,
-            reset: 1,
             terminated: 50,
             aim: 8,
             sources: 5,
@@ -474,6 +477,8 @@ impl Script {
             c.clear,
             c.clear_all,
             c.reset,
+            c.reset_pairs,
+            c.reset_discovery,
             c.listen,
             c.mute,
             c.listening,
@@ -507,25 +512,32 @@ impl Script {
                 self.say("clear_all".into());
                 self.say("dump".into());
             }
-            7 => {
-                self.last.clear();
-                self.say("reset".into());
+            i @ 7..=9 => {
+                self.reset(["reset", "reset_pairs", "reset_discovery"][i - 7]);
                 self.say("dump".into());
             }
-            8 => self.listen(),
-            9 => {
+            10 => self.listen(),
+            11 => {
                 let universe = self.any_universe();
                 self.say(format!("mute {universe}"));
             }
-            10 => {
+            12 => {
                 let universe = self.any_universe();
                 self.say(format!("listening {universe}"));
             }
-            11 => self.setting(),
-            12 => self.limit(),
-            13 => self.malformed(),
+            13 => self.setting(),
+            14 => self.limit(),
+            15 => self.malformed(),
             _ => self.say("dump".into()),
         }
+    }
+
+    // The reset of all, or one half of it.
+    fn reset(&mut self, word: &str) {
+        if word != "reset_discovery" {
+            self.last.clear();
+        }
+        self.say(word.into());
     }
 
     // The clock's next reading.
@@ -788,7 +800,7 @@ impl Script {
         let now = self.now;
         let cid = hex(&self.cids[0]);
         let universe = self.universe();
-        let line = match self.rng.below(34) {
+        let line = match self.rng.below(38) {
             0 => "".into(),
             1 => "# a remark".into(),
             2 => "#".into(),
@@ -822,6 +834,10 @@ impl Script {
             30 => format!("discovery {now} {cid} 0 0 41 1, 2"),
             31 => " dump".into(),
             32 => "dump now".into(),
+            33 => "reset_pairs 1".into(),
+            34 => "reset_pair".into(),
+            35 => "reset_discovery 0".into(),
+            36 => "reset discovery".into(),
             _ => format!("data {now} {cid} {universe} 0 100 1 0 00 "),
         };
         self.say(line);
@@ -840,7 +856,7 @@ impl Script {
         self.say("dump".into());
     }
 
-    // 64 waiting universes: filled, merged onto, freed by a release, a clear or age, and filled again.
+    // 64 waiting universes: filled, merged onto, freed by a release, a clear or age, left by a reset, and filled again.
     fn full_waiting(&mut self, short: bool) {
         let numbers: Vec<u16> = (1..=70).collect();
         self.say(format!("listen {}", list(&numbers)));
@@ -857,7 +873,7 @@ impl Script {
             self.full_data(*universe, long);
         }
         for _ in 0..self.rng.between(4, 12) {
-            match self.rng.below(8) {
+            match self.rng.below(9) {
                 0 => self.say(format!("clear {}", order[0])),
                 1 => {
                     let (now, cid) = (self.now, hex(&self.cids[0]));
@@ -869,6 +885,7 @@ impl Script {
                     self.say(format!("poll {}", self.now));
                 }
                 3 => self.say("dump".into()),
+                4 => self.reset("reset_pairs"),
                 _ => {
                     let universe = self.rng.pick(&order);
                     self.full_data(universe, long);
@@ -926,7 +943,10 @@ impl Script {
                         hex(&cids[0])
                     ));
                 }
-                3 => self.say("reset".into()),
+                3 => {
+                    let word = self.rng.pick(&["reset", "reset_pairs", "reset_discovery"]);
+                    self.reset(word);
+                }
                 _ => {
                     let cid = self.rng.pick(&cids);
                     let last = self.rng.pick(&[0, 0, 1]);
@@ -968,6 +988,11 @@ impl Script {
         for _ in 0..self.rng.between(5, 20) {
             if self.rng.percent(20) {
                 self.now += self.rng.pick(&[1, 600, 1500]);
+            }
+            // The one frees the table, the other leaves it.
+            if self.rng.percent(4) {
+                let word = self.rng.pick(&["reset_pairs", "reset_discovery"]);
+                self.reset(word);
             }
             let (cid, universe) = self.rng.pick(&pairs);
             if !sync && self.rng.percent(25) {

@@ -6,8 +6,8 @@ use borrow.Author.Needs.{needs}
 use Rattle.replay.proofs.calls.reset.Statement.{statement}
 use Rattle.replay.proofs.calls.reset.Tie as tie
 
-reset-sources-requires : tie.Need-reset-sources-requires
-reset-sources-requires c κs = search needs
+forget-requires : tie.Need-forget-requires
+forget-requires c κs = search needs
 
 put-number-requires : tie.Need-put-number-requires
 put-number-requires c κs = search needs
@@ -16,7 +16,7 @@ same-length : tie.Need-same-length
 same-length c = search needs
 
 returns : tie.Need-returns
-returns c = λ m. carries-change (c .before .before .before .before .reset-sources .ensures m) refl (c .before .before .put-number .ensures)
+returns c = λ m. carries-change (c .before .before .before .before .forget .ensures m) refl (c .before .before .put-number .ensures)
 
 pub reset-spec : {M : Type 1} → statement M
-reset-spec = tie.close (tie.spec reset-sources-requires put-number-requires same-length returns)
+reset-spec = tie.close (tie.spec forget-requires put-number-requires same-length returns)

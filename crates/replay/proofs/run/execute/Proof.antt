@@ -97,14 +97,14 @@ enum-told-3 c = search needs
 clear-all-requires : tie.Need-clear-all-requires
 clear-all-requires c κs = search needs
 
-enum-told-4 : tie.Need-enum-told-4
-enum-told-4 c = search needs
+enum-known-command-11 : tie.Need-enum-known-command-11
+enum-known-command-11 c = search needs
 
 reset-requires : tie.Need-reset-requires
 reset-requires c κs = search needs
 
-enum-told-5 : tie.Need-enum-told-5
-enum-told-5 c = search needs
+enum-told-4 : tie.Need-enum-told-4
+enum-told-4 c = search needs
 
 refuse-requires : tie.Need-refuse-requires
 refuse-requires c κs = search needs
@@ -287,9 +287,9 @@ same-length-28 c = search needs
 returns-14 : tie.Need-returns-14
 returns-14 c =
     let c1 = c .before .before in
-    let c2 = c1 .before .before in
+    let c2 = c1 .before .before .before in
     let c3 = c2 .before .before .before .before .before .before .before .before in
-    carries-as (ap (outcomes c3) (sym (c2 .enum-told4 .given .1))) (c1 .reset .ensures (lent c3))
+    carries-as (ap (outcomes c3) (sym (c2 .command11 .given .1))) (c1 .reset .ensures (lent c3))
 
 same-length-29 : tie.Need-same-length-29
 same-length-29 c = search needs
@@ -299,7 +299,7 @@ returns-15 c =
     let c1 = c .before .before in
     let c2 = c1 .before .before in
     let c3 = c2 .before .before .before .before .before .before .before .before in
-    carries-as (ap (outcomes c3) (sym (c2 .enum-told5 .given .1))) (c1 .refuse .ensures (lent c3))
+    carries-as (ap (outcomes c3) (sym (c2 .enum-told4 .given .1))) (c1 .refuse .ensures (lent c3))
 
 pub execute-spec : {M : Type 1} → statement M
 execute-spec =
@@ -331,9 +331,9 @@ execute-spec =
     adjust-requires
     enum-told-3
     clear-all-requires
-    enum-told-4
+    enum-known-command-11
     reset-requires
-    enum-told-5
+    enum-told-4
     refuse-requires
     same-length
     same-length-2

@@ -61,6 +61,12 @@ returns-4 c =
     let c7 = c6 .before in
     rw (sym (c7 .is-same .ensures) ∙ c6 .if1 .left, sym (c5 .is-same2 .ensures) ∙ c4 .if2 .left, sym (c3 .is-same3 .ensures) ∙ c2 .if3 .left, sym (c1 .is-same4 .ensures) ∙ c .if4 .taken)
 
+slice-aggregate-is-same-5 : tie.Need-slice-aggregate-is-same-5
+slice-aggregate-is-same-5 c = search needs
+
+is-same-requires-5 : tie.Need-is-same-requires-5
+is-same-requires-5 c κs = search needs
+
 returns-5 : tie.Need-returns-5
 returns-5 c =
     let c1 = c .before in
@@ -70,7 +76,45 @@ returns-5 c =
     let c5 = c4 .before in
     let c6 = c5 .before .before in
     let c7 = c6 .before in
-    rw (sym (c7 .is-same .ensures) ∙ c6 .if1 .left, sym (c5 .is-same2 .ensures) ∙ c4 .if2 .left, sym (c3 .is-same3 .ensures) ∙ c2 .if3 .left, sym (c1 .is-same4 .ensures) ∙ c .if4 .left)
+    let c8 = c7 .before .before in
+    let c9 = c8 .before in
+    rw (sym (c9 .is-same .ensures) ∙ c8 .if1 .left, sym (c7 .is-same2 .ensures) ∙ c6 .if2 .left, sym (c5 .is-same3 .ensures) ∙ c4 .if3 .left, sym (c3 .is-same4 .ensures) ∙ c2 .if4 .left, sym (c1 .is-same5 .ensures) ∙ c .if5 .taken)
+
+slice-aggregate-is-same-6 : tie.Need-slice-aggregate-is-same-6
+slice-aggregate-is-same-6 c = search needs
+
+is-same-requires-6 : tie.Need-is-same-requires-6
+is-same-requires-6 c κs = search needs
+
+returns-6 : tie.Need-returns-6
+returns-6 c =
+    let c1 = c .before in
+    let c2 = c1 .before .before in
+    let c3 = c2 .before in
+    let c4 = c3 .before .before in
+    let c5 = c4 .before in
+    let c6 = c5 .before .before in
+    let c7 = c6 .before in
+    let c8 = c7 .before .before in
+    let c9 = c8 .before in
+    let c10 = c9 .before .before in
+    let c11 = c10 .before in
+    rw (sym (c11 .is-same .ensures) ∙ c10 .if1 .left, sym (c9 .is-same2 .ensures) ∙ c8 .if2 .left, sym (c7 .is-same3 .ensures) ∙ c6 .if3 .left, sym (c5 .is-same4 .ensures) ∙ c4 .if4 .left, sym (c3 .is-same5 .ensures) ∙ c2 .if5 .left, sym (c1 .is-same6 .ensures) ∙ c .if6 .taken)
+
+returns-7 : tie.Need-returns-7
+returns-7 c =
+    let c1 = c .before in
+    let c2 = c1 .before .before in
+    let c3 = c2 .before in
+    let c4 = c3 .before .before in
+    let c5 = c4 .before in
+    let c6 = c5 .before .before in
+    let c7 = c6 .before in
+    let c8 = c7 .before .before in
+    let c9 = c8 .before in
+    let c10 = c9 .before .before in
+    let c11 = c10 .before in
+    rw (sym (c11 .is-same .ensures) ∙ c10 .if1 .left, sym (c9 .is-same2 .ensures) ∙ c8 .if2 .left, sym (c7 .is-same3 .ensures) ∙ c6 .if3 .left, sym (c5 .is-same4 .ensures) ∙ c4 .if4 .left, sym (c3 .is-same5 .ensures) ∙ c2 .if5 .left, sym (c1 .is-same6 .ensures) ∙ c .if6 .left)
 
 pub parse-lone-spec : {M : Type 1} → statement M
 parse-lone-spec =
@@ -88,4 +132,10 @@ parse-lone-spec =
     slice-aggregate-is-same-4
     is-same-requires-4
     returns-4
-    returns-5)
+    slice-aggregate-is-same-5
+    is-same-requires-5
+    returns-5
+    slice-aggregate-is-same-6
+    is-same-requires-6
+    returns-6
+    returns-7)
