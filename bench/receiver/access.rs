@@ -80,8 +80,10 @@ impl Published {
             .is_some()
     }
 
-    pub fn reset(&mut self) {
-        self.0.reset_sources();
+    /// What the crate's `reset_sources` does to its two discovery lists.
+    pub fn reset_discovery(&mut self) {
+        self.0.partially_discovered_sources.clear();
+        self.0.discovered_sources.clear();
     }
 
     /// How many pairs have sent data, and how many universes wait.

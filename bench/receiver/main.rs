@@ -297,7 +297,7 @@ fn run(case: Case, seconds: f64) {
     print_row(case.what, &case.size.to_string(), times.0, times.1);
 }
 
-/// A round: all sources are forgotten, then the pages arrive, one after another, until the last one lists its source.
+/// A round: both discovery lists are forgotten, then the pages arrive, one after another, until the last one lists its source.
 fn discovery(what: &str, sources: usize, pages: usize, seconds: f64) {
     let list: Vec<u16> = (1..=512).collect();
     let mut published = Published::new(&[], false);
@@ -312,9 +312,9 @@ fn discovery(what: &str, sources: usize, pages: usize, seconds: f64) {
             let began = Instant::now();
             for _ in 0..repeats {
                 if side == 0 {
-                    published.reset();
+                    published.reset_discovery();
                 } else {
-                    proved.receiver.reset_sources();
+                    proved.receiver.reset_discovery();
                 }
                 for source in 0..sources {
                     for page in 0..pages {

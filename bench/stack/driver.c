@@ -10,9 +10,10 @@
 #define STACK 65536
 #define PATTERN 0xA5
 
-enum { NOTHING, DATA, SYNC, PAGE, POLL, EXPIRE, LISTEN, MUTE, LISTENS, CLEAR, CLEAR_ALL, RESET, START, KINDS };
+enum { NOTHING, DATA, SYNC, PAGE, POLL, EXPIRE, LISTEN, MUTE, LISTENS, CLEAR, CLEAR_ALL, RESET_PAIRS, RESET_DISCOVERY, RESET_SOURCES, START, KINDS };
 static const char *const names[KINDS] = {"(none)", "handle_data_packet", "handle_sync_packet", "handle_universe_discovery_packet", "poll",
-    "remove_expired_sources", "listen_universes", "mute_universe", "is_listening", "clear_waiting_data", "clear_all_waiting_data", "reset_sources", "new"};
+    "remove_expired_sources", "listen_universes", "mute_universe", "is_listening", "clear_waiting_data", "clear_all_waiting_data", "reset_pairs",
+    "reset_discovery", "reset_sources", "new"};
 
 static tamburelvi_receiver receiver;
 static uint8_t out[TAMBURELVI_OUTPUT], values[TAMBURELVI_VALUES], name[TAMBURELVI_NAME];
@@ -39,9 +40,12 @@ static void mute(void) { answer = tamburelvi_receiver_mute_universe(&receiver, u
 static void listens(void) { universe = tamburelvi_receiver_is_listening(&receiver, universe); }
 static void clear(void) { answer = tamburelvi_receiver_clear_waiting_data(&receiver, universe); }
 static void clear_all(void) { answer = tamburelvi_receiver_clear_all_waiting_data(&receiver); }
-static void reset(void) { answer = tamburelvi_receiver_reset_sources(&receiver); }
+static void reset_pairs(void) { answer = tamburelvi_receiver_reset_pairs(&receiver); }
+static void reset_discovery(void) { answer = tamburelvi_receiver_reset_discovery(&receiver); }
+static void reset_sources(void) { answer = tamburelvi_receiver_reset_sources(&receiver); }
 static void start(void) { answer = tamburelvi_receiver_new(&receiver); }
-static void (*const call[KINDS])(void) = {nothing, take_data, take_sync, take_page, poll, remove_expired, listen, mute, listens, clear, clear_all, reset, start};
+static void (*const call[KINDS])(void) = {nothing, take_data, take_sync, take_page, poll, remove_expired, listen, mute, listens, clear, clear_all, reset_pairs,
+    reset_discovery, reset_sources, start};
 
 static void carry_out(int k) {
     memset(stack, PATTERN, STACK);
@@ -94,7 +98,7 @@ int main(void) {
             case 4: carry_out(LISTENS); break;
             case 5: carry_out(CLEAR); break;
             case 6: if (below(40) == 0) carry_out(CLEAR_ALL); break;
-            case 7: if (below(40) == 0) carry_out(RESET); break;
+            case 7: if (below(40) == 0) carry_out((int[]){RESET_PAIRS, RESET_DISCOVERY, RESET_SOURCES}[below(3)]); break;
             case 8: case 9: case 10:
                 if (run % 5 == 0 && below(10)) break;
                 sync_packet = (tamburelvi_sync_packet){.address = (uint16_t)(500 + below(3)), .sequence = (uint8_t)i};

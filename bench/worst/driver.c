@@ -64,7 +64,9 @@ static void clear(void) { reply = tamburelvi_clear_waiting_data(now.header, ENTR
 static void start(void) { reply.header = tamburelvi_new(HEARD); }
 static void listens(void) { reply.header = now.header; reply.answer.first = tamburelvi_is_listening(now.header, HEARD, universe); }
 static void clear_all(void) { reply.header = tamburelvi_clear_all_waiting_data(now.header); }
-static void reset(void) { reply.header = tamburelvi_reset_sources(now.header); }
+static void reset_pairs(void) { reply.header = tamburelvi_reset_pairs(now.header); }
+static void reset_discovery(void) { reply.header = tamburelvi_reset_discovery(now.header); }
+static void reset_sources(void) { reply.header = tamburelvi_reset_sources(now.header); }
 static void source_at(void) { reply.header = now.header; reply.answer.first = tamburelvi_source_at(now.header, (void *)now.sources, 1, 63).place; }
 static void page_at(void) { reply.header = now.header; reply.answer.first = tamburelvi_page_at(now.header, (void *)now.pages, 1, WORD, source, 0).place; }
 
@@ -561,13 +563,17 @@ static void clear_all_64(void) {
     expect_nothing();
     expected.waiting = 0;
 }
-static void reset_full(void) {
+static void reset_full(bool pairs, bool discovery) {
     begin(); hear();
     tables(PAIRS, NONE, PAIRS, NONE, WAITING);
     for (int s = 0; s < PAGES; s++) one_page(cid(s), 0, 0, false);
     expect_nothing();
-    expected.data_pairs = expected.data_sources = expected.sync_pairs = expected.sync_sources = expected.sources = expected.pages = expected.page_universes = 0;
+    if (pairs) expected.data_pairs = expected.data_sources = expected.sync_pairs = expected.sync_sources = 0;
+    if (discovery) expected.sources = expected.pages = expected.page_universes = 0;
 }
+static void reset_pairs_full(void) { reset_full(true, false); }
+static void reset_discovery_full(void) { reset_full(false, true); }
+static void reset_sources_full(void) { reset_full(true, true); }
 static void start_most(void) {
     begin();
     expect_nothing();
@@ -634,7 +640,9 @@ static const row cases[] = {
     {"is_listening", "one of 1,024, by chance", listens_most, listens, 1, true},
     {"clear_waiting_data", "the first of 64", clear_first, clear, 1, false},
     {"clear_all_waiting_data", "64 wait", clear_all_64, clear_all, 1, false},
-    {"reset_sources", "everything full", reset_full, reset, 1, false},
+    {"reset_pairs", "everything full", reset_pairs_full, reset_pairs, 1, false},
+    {"reset_discovery", "everything full", reset_discovery_full, reset_discovery, 1, false},
+    {"reset_sources", "everything full", reset_sources_full, reset_sources, 1, false},
     {"new", "any", start_most, start, 1, false},
     {"source_at", "the last of 64", read_source, source_at, 1, false},
     {"page_at", "the last of 64", read_page, page_at, 1, false},

@@ -11,8 +11,9 @@
 /* Every function, with a count of its calls. */
 #define EACH(F) \
     F(new) F(handle_data_packet) F(handle_sync_packet) F(handle_universe_discovery_packet) F(poll) F(remove_expired_sources) F(listen_universes) \
-    F(mute_universe) F(is_listening) F(clear_waiting_data) F(clear_all_waiting_data) F(reset_sources) F(fresh_settings) F(set_process_preview_data) \
-    F(set_announce_source_discovery) F(set_announce_stream_termination) F(set_announce_timeout) F(set_merge) F(clear_source_limit) F(set_source_limit) \
+    F(mute_universe) F(is_listening) F(clear_waiting_data) F(clear_all_waiting_data) F(reset_pairs) F(reset_discovery) F(reset_sources) F(fresh_settings) \
+    F(set_process_preview_data) F(set_announce_source_discovery) F(set_announce_stream_termination) F(set_announce_timeout) F(set_merge) \
+    F(clear_source_limit) F(set_source_limit) \
     F(data_pair) F(sync_pair) F(data_source) F(sync_source) F(listened) F(waiting) F(waiting_values) F(source_at) F(page_at)
 #ifdef TRACE
 #define OTHER(f) tamburelvi_##f
@@ -210,7 +211,14 @@ int main(int argc, char **argv) {
                 case 3: if (one_in(4)) REPLY(mute_universe, &t->heard, u); break;
                 case 4: REPLY(clear_waiting_data, &t->rows, t->store, store, u); break;
                 case 5: if (one_in(30)) HEADER(clear_all_waiting_data); break;
-                case 6: if (one_in(30)) HEADER(reset_sources); break;
+                case 6:
+                    if (!one_in(20)) break;
+                    switch (below(3)) {
+                    case 0: HEADER(reset_pairs); break;
+                    case 1: HEADER(reset_discovery); break;
+                    case 2: HEADER(reset_sources); break;
+                    }
+                    break;
                 case 7: {
                     READ(is_listening, bool, &t->heard, u);
                     if (p != q) differ("is_listening");

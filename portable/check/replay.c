@@ -222,6 +222,8 @@ static bool command(int n) {
             h = tamburelvi_new(&t.heard);
             s = tamburelvi_fresh_settings();
         } else if (!strcmp(w, "clear_all")) h = tamburelvi_clear_all_waiting_data(h);
+        else if (!strcmp(w, "reset_pairs")) h = tamburelvi_reset_pairs(h);
+        else if (!strcmp(w, "reset_discovery")) h = tamburelvi_reset_discovery(h);
         else if (!strcmp(w, "reset")) h = tamburelvi_reset_sources(h);
         else if (!strcmp(w, "dump")) {
             dump();
