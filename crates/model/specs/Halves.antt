@@ -1,13 +1,13 @@
 -- Document 02, F-2: "Operators who restart a desk want its numbering forgotten without losing the list of sources." What the two halves of
 -- `reset_sources` clear and leave, for every state.
 -- Assumes nothing.
-use mathlib.Core.Path.{_≡_, refl, ap}
-use mathlib.Core.Bool.{Bool, false}
+use mathlib.Core.Path.{_≡_, refl}
+use mathlib.Core.Bool.{Bool}
 use mathlib.Core.List.{[], _∷_}
 use Rattle.settings.specs.declared.SourceLimit.{SourceLimit}
+use Rattle.settings.specs.Settings.{Proper-limit}
 use Rattle.pairs.specs.declared.Pair.{Pair}
-use Rattle.pairs.specs.declared.Checked.{Checked}
-use Rattle.pairs.specs.declared.Checked.the-variants as checked
+use Rattle.pairs.specs.declared.Checked.the-variants.{Accepted}
 use Rattle.pairs.specs.Table as pairs
 use Rattle.pairs.specs.Laws as pair-laws
 use Rattle.discovery.specs.Discovery as discovery
@@ -39,12 +39,13 @@ module _ (s : State) where
   unfolding reset-pairs-call
   discovery-left = (refl, (refl, refl))
 
-  -- "its numbering forgotten": both tables take the next arrival of any pair, whatever its sequence number, where the limit is not 0
-  pub numbering-forgotten : (limit : SourceLimit) (announce : Bool) (p : Pair) → pairs.reached limit 0 ≡ false
-      → (pairs.check limit announce p (reset-pairs-call s .data-pairs) .1 ≡ checked.Accepted) × (pairs.check limit announce p (reset-pairs-call s .sync-pairs) .1 ≡ checked.Accepted)
-  numbering-forgotten limit announce p h =
-      let taken = ap (λ (r : pairs.Table × Checked). r .1) (pair-laws.check-empty limit announce p h) in
-      (rw (pairs-cleared .0) taken, rw (pairs-cleared .1) taken)
+  -- "its numbering forgotten": the next arrival at either table, of any pair and with any sequence number, is accepted and stored
+  pub next-stored : (limit : SourceLimit) (announce : Bool) (p : Pair) → Proper-limit limit
+      → (pairs.check limit announce p (reset-pairs-call s .data-pairs) ≡ (pairs.recorded p pairs.empty, Accepted))
+      × (pairs.check limit announce p (reset-pairs-call s .sync-pairs) ≡ (pairs.recorded p pairs.empty, Accepted))
+  next-stored limit announce p h =
+      let stored = pair-laws.check-empty limit announce p h in
+      (rw (pairs-cleared .0) stored, rw (pairs-cleared .1) stored)
 
   -- ── the other: both discovery lists ──
   pub discovery-cleared : reset-discovery-call s .discovered ≡ discovery.nothing-known

@@ -57,10 +57,10 @@ abbrev pub reading-noted : ℕ → PairTable → PairTable
 reading-noted now t = record { count = t .count; «source_count» = t .«source_count»; oldest = min (t .oldest) now; tidy = t .tidy }
 
 -- ── what the calls ensure ──
--- a table over any rows is the empty one, and its notes are those of the empty one
+-- a table over any rows is the empty one, with the notes that no rows give it
 pub record Emptied (t : PairTable) : Type 0 where
   pub is-empty : (pairs sources : Rows) → tableOf t pairs sources ≡ empty
-  pub noted-so : (pairs sources : Rows) → t ≡ renewed t pairs sources
+  pub notes-are : (pairs sources : Rows) → t ≡ renewed t pairs sources
   pub kept : (pairs sources : Rows) → length pairs ≡ capacity → length sources ≡ capacity → Kept t pairs sources
 
 -- table, rows and answer are what the definition says, and the next call may follow

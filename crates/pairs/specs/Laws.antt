@@ -24,6 +24,8 @@ use Rattle.rules.specs.declared.SequenceAnswer.the-variants as sequence
 use Rattle.rules.specs.Sequence.{difference, judged}
 use Rattle.rules.specs.Sequence as rule
 use Rattle.settings.specs.declared.SourceLimit.{SourceLimit}
+use Rattle.settings.specs.declared.SourceLimit.the-variants.{Unlimited, AtMost}
+use Rattle.settings.specs.Settings.{Proper-limit}
 use Rattle.pairs.specs.declared.Pair.{Pair}
 use Rattle.pairs.specs.declared.Checked.{Checked}
 use Rattle.pairs.specs.declared.Checked.the-variants.{Accepted, UniverseTimeout, SourcesExceeded, OutOfSequence, PairsFull, SourceWithoutPairs, Repeated}
@@ -492,12 +494,16 @@ pub check-polled : (limit : SourceLimit) (announce : Bool) (p : Pair) (t : Table
     → check limit announce p (sweep announce (p .reading) t .0) ≡ admit limit p (sweep announce (p .reading) t .0)
 check-polled limit announce p t h = check-quiet limit announce p _ _ (sweep-again announce (p .reading) t h)
 
--- an empty table takes every arrival, whatever its sequence number, where the limit is not 0
-stop-empty : (limit : SourceLimit) (p : Pair) → reached limit 0 ≡ false → stop limit p empty ≡ none
-unfolding stop source-stop listed full find sequence-stop
-stop-empty limit p h = rw h
+-- an empty table takes every arrival, whatever its sequence number: a limit is "either none or 1 to 65,535"
+none-reaches : (limit : SourceLimit) → Proper-limit limit → reached limit 0 ≡ false
+none-reaches Unlimited h = refl
+none-reaches (AtMost n) h = lt-leb n 0 (h .0)
 
-pub check-empty : (limit : SourceLimit) (announce : Bool) (p : Pair) → reached limit 0 ≡ false → check limit announce p empty ≡ (recorded p empty, Accepted)
+stop-empty : (limit : SourceLimit) (p : Pair) → Proper-limit limit → stop limit p empty ≡ none
+unfolding stop source-stop listed full find sequence-stop
+stop-empty limit p h = rw (none-reaches limit h)
+
+pub check-empty : (limit : SourceLimit) (announce : Bool) (p : Pair) → Proper-limit limit → check limit announce p empty ≡ (recorded p empty, Accepted)
 unfolding any
 check-empty limit announce p h = check-quiet limit announce p empty empty (sweep-fresh announce (p .reading) empty good-empty refl) ∙ admit-stored limit p empty (stop-empty limit p h)
 

@@ -56,7 +56,7 @@ pub fn choose(count: usize, reference: &Side) -> Result<(String, String), String
     }
     let numbers = NUMBERS.iter().map(|n| format!("number {n}"));
     let marks = MARKS.iter().map(|m| format!("line {m}"));
-    let resets = RESETS.iter().flat_map(|r| TABLES.map(|t| found(r, t, 2)));
+    let resets = RESETS.iter().flat_map(|r| TABLES.map(|t| finding(r, t, 2)));
     let outlives = [OUTLIVES.to_string()];
     for wanted in numbers.chain(marks).chain(resets).chain(outlives) {
         if !seen.contains(&wanted) {
@@ -131,7 +131,7 @@ fn watched(script: &[String]) -> Vec<String> {
 }
 
 // A command that found so many lines of a table.
-fn found(command: &str, table: &str, lines: usize) -> String {
+fn finding(command: &str, table: &str, lines: usize) -> String {
     format!("{command} found {lines} {table}")
 }
 
@@ -146,7 +146,7 @@ fn note_found<'a>(
     let lines = |start: &str| before.lines().filter(|l| l.starts_with(start)).count();
     if command == "clear_all" || RESETS.contains(&command) {
         for table in TABLES {
-            features.insert(found(command, table, lines(&format!("{table} ")).min(2)));
+            features.insert(finding(command, table, lines(&format!("{table} ")).min(2)));
         }
     }
     let fields: Vec<&str> = command.split(' ').collect();

@@ -12,7 +12,7 @@ unfolding any lower
 returns c =
     record {
       is-empty = λ pairs sources. refl;
-      noted-so = λ pairs sources. refl;
+      notes-are = λ pairs sources. refl;
       kept = λ pairs sources p s. record {
         pairs-room = p;
         sources-room = s;
