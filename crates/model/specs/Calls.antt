@@ -11,8 +11,10 @@ use Rattle.rules.specs.Universe.{legal}
 use Rattle.rules.specs.Age.{data-loss}
 use Rattle.settings.specs.declared.Settings.{Settings}
 use Rattle.pairs.specs.Table as pairs
+use Rattle.merge.specs.Merge.{Dmx}
 use Rattle.waiting.specs.Waiting as waiting
 use Rattle.discovery.specs.Discovery as discovery
+use Rattle.model.specs.declared.StepAnswer.{StepAnswer}
 use Rattle.model.specs.declared.PollAnswer.{PollAnswer}
 use Rattle.model.specs.declared.PollAnswer.the-variants as polling
 use Rattle.model.specs.declared.ExpiryAnswer.{ExpiryAnswer}
@@ -111,3 +113,37 @@ call on-reset s = reset-call s
 unfoldable pub run : List Call → State → State
 run [] s = s
 run (c ∷ cs) s = run cs (call c s)
+
+-- ── what calls reply ──
+-- one case a kind of call; A: the answers of a step
+pub data Reply (A : Type 0) : Type 0 where
+  of-packet : A → List Dmx → Reply A
+  of-poll : PollAnswer → Reply A
+  of-expiry : ExpiryAnswer → Reply A
+  of-listen : ListenAnswer → Reply A
+  of-mute : MuteAnswer → Reply A
+  of-ask : Bool → Reply A
+  of-clear : ClearAnswer → Reply A
+  of-clear-all : Reply A
+  of-reset-pairs : Reply A
+  of-reset-discovery : Reply A
+  of-reset : Reply A
+
+-- a step with its answer and what it releases
+unfoldable pub reply : Call → State → Reply StepAnswer
+reply (on-packet m S now p) s = of-packet (step m S now p s .answer) (step m S now p s .released)
+reply (on-poll room S now) s = of-poll (poll-call room S now s .1)
+reply (on-expiry room now) s = of-expiry (expiry-call room now s .1)
+reply (on-listen us) s = of-listen (listen-call us s .1)
+reply (on-mute u) s = of-mute (mute-call u s .1)
+reply (on-ask u) s = of-ask (listens u (s .listened))
+reply (on-clear room u) s = of-clear (clear-call room u s .1)
+reply on-clear-all s = of-clear-all
+reply on-reset-pairs s = of-reset-pairs
+reply on-reset-discovery s = of-reset-discovery
+reply on-reset s = of-reset
+
+-- what the calls of a list reply, in order
+unfoldable pub replies : List Call → State → List (Reply StepAnswer)
+replies [] s = []
+replies (c ∷ cs) s = reply c s ∷ replies cs (call c s)

@@ -8,3 +8,4 @@ pub mod Examples
 pub mod ListenExamples
 pub mod Invariant
 pub mod Repeats
+pub mod Without16
