@@ -197,7 +197,7 @@ static void words(void) {
         const char *text = tamburelvi_number_text(n);
         if (strcmp(text, "unknown number")) printf("%u %s\n", n, text);
     }
-    printf("17 %s\n256 %s\n", tamburelvi_number_text(17), tamburelvi_number_text(256));
+    printf("16 %s\n17 %s\n256 %s\n", tamburelvi_number_text(16), tamburelvi_number_text(17), tamburelvi_number_text(256));
 }
 
 /* All calls with a receiver that no call is made with. */
@@ -580,6 +580,41 @@ static void full(void) {
     show("one more", take_page(40000, page(65, 0, 0, 4, 1)));
 }
 
+/* The data table as no call leaves it: CIDs listed, and all pairs gone. */
+static void lose_pairs(void) {
+    r->header.data_pairs = 0;
+    r->header.data_tidy = false;
+}
+
+/* A broken table handed in: a CID listed without any pair goes on to rule 3, whatever the limit. With announcements off the
+ * sweep takes it off the list before that. */
+static void broken(void) {
+    unsigned taken = 0;
+    show("reset pairs", tamburelvi_receiver_reset_pairs(r));
+    show("announce timeouts", tamburelvi_receiver_set_announce_timeout(r, true));
+    show("limit 1", tamburelvi_receiver_set_source_limit(r, 1));
+    show("A", take(50000, data(0x30, 1, 0, 7, 2)));
+    lose_pairs();
+    show_pairs();
+    show("B", take(50000, data(0x40, 1, 0, 7, 2)));
+    show("A, listed", take(50000, data(0x30, 1, 0, 7, 2)));
+    show_pairs();
+    show("no limit", tamburelvi_receiver_clear_source_limit(r));
+    lose_pairs();
+    for (uint16_t u = 1; u <= 512; u++) taken += take(50000, data(0x40, u, 0, 7, 2)).number == TAMBURELVI_OK;
+    for (uint16_t u = 1; u <= 512; u++) taken += take(50000, data(0x50, u, 0, 7, 2)).number == TAMBURELVI_OK;
+    printf("%u pairs taken\n", taken);
+    show("A, listed", take(50000, data(0x30, 1, 0, 7, 2)));
+    show("reset pairs", tamburelvi_receiver_reset_pairs(r));
+    show("A", take(50000, data(0x30, 1, 0, 7, 2)));
+    lose_pairs();
+    show("B", take(50000, data(0x40, 1, 0, 7, 2)));
+    show("do not announce", tamburelvi_receiver_set_announce_timeout(r, false));
+    show("limit 1", tamburelvi_receiver_set_source_limit(r, 1));
+    show("A, taken off the list", take(50000, data(0x30, 1, 0, 7, 2)));
+    show_pairs();
+}
+
 /* Each store's length through the library's own functions, output before waiting values before pages; then what every
  * read-out gives past the last place. */
 static void library(void) {
@@ -740,6 +775,8 @@ int main(void) {
     resets();
     printf("-- full tables\n");
     full();
+    printf("-- a broken table\n");
+    broken();
     printf("-- the library's functions\n");
     library();
     printf("-- malformed releases\n");

@@ -79,7 +79,8 @@ extern "C" {
 #define TAMBURELVI_CID 16
 
 /**
- * @brief What stopped a call. 17 to 20 and 22 to 252 are the library's too and not used yet; 253 to 255 are this header's.
+ * @brief What stopped a call. 17 to 20 and 22 to 252 are the library's too and not used yet; 16 was given up and is not used again;
+ * 253 to 255 are this header's.
  *
  * In parentheses: the values that an answer of this number has, by enum tamburelvi_kind.
  *
@@ -104,7 +105,6 @@ enum tamburelvi_number {
     TAMBURELVI_PAGES_FULL = 13,             /**< 64 pages held. (None.) */
     TAMBURELVI_LIMIT_ZERO = 14,             /**< A source limit of 0. (None.) */
     TAMBURELVI_TOO_SHORT = 15,              /**< Lent memory is too short. (One: the bytes needed.) */
-    TAMBURELVI_SOURCE_WITHOUT_PAIRS = 16,   /**< A CID listed without pairs. No call leaves such a table. (None.) */
     TAMBURELVI_REPEATED = 21,               /**< The last sequence number again: a difference of 0. (Sequence.) */
     TAMBURELVI_OVERLAP = 253,               /**< This header's: memories of the call overlap; it was not made. (None.) */
     TAMBURELVI_NOT_STARTED = 254,           /**< This header's: no tamburelvi_receiver_new; the call was not made. (None.) */
@@ -473,7 +473,7 @@ tamburelvi_header tamburelvi_new(tamburelvi_listened_universes *heard);
  * @param values_length How many, at most TAMBURELVI_VALUES.
  * @param out Output. A release is in its first bytes; the rest is unchanged.
  * @param out_length Its bytes, TAMBURELVI_OUTPUT or more.
- * @return 0 with nothing or a release, or 1, 2, 4 to 8, 10 to 12, 15, 16, 21.
+ * @return 0 with nothing or a release, or 1, 2, 4 to 8, 10 to 12, 15, 21.
  */
 tamburelvi_reply tamburelvi_handle_data_packet(tamburelvi_header header, tamburelvi_pair_rows *data_pairs,
     tamburelvi_source_rows *data_sources, tamburelvi_pair_rows *sync_pairs, tamburelvi_source_rows *sync_sources,
@@ -503,7 +503,7 @@ tamburelvi_reply tamburelvi_handle_data_packet(tamburelvi_header header, tambure
  * @param packet The packet.
  * @param out Output. A release is in its first bytes; the rest is unchanged.
  * @param out_length Its bytes, TAMBURELVI_OUTPUT or more.
- * @return 0 with nothing or a release, or 4, 6, 7, 10, 15, 16, 21.
+ * @return 0 with nothing or a release, or 4, 6, 7, 10, 15, 21.
  */
 tamburelvi_reply tamburelvi_handle_sync_packet(tamburelvi_header header, tamburelvi_pair_rows *data_pairs,
     tamburelvi_source_rows *data_sources, tamburelvi_pair_rows *sync_pairs, tamburelvi_source_rows *sync_sources,
@@ -827,7 +827,6 @@ static inline const char *tamburelvi_number_text(unsigned number) {
     case TAMBURELVI_PAGES_FULL: return "64 pages are held";
     case TAMBURELVI_LIMIT_ZERO: return "a source limit of 0";
     case TAMBURELVI_TOO_SHORT: return "lent memory is too short";
-    case TAMBURELVI_SOURCE_WITHOUT_PAIRS: return "a CID is listed without pairs";
     case TAMBURELVI_REPEATED: return "the sequence number is a repeat of the last one";
     case TAMBURELVI_OVERLAP: return "memories of the call overlap";
     case TAMBURELVI_NOT_STARTED: return "the receiver was not started";
@@ -1126,7 +1125,7 @@ static inline tamburelvi_answer tamburelvi_receiver_new(tamburelvi_receiver *rec
  * @param packet The packet.
  * @param out Output. A release is in its first bytes (tamburelvi_records_of).
  * @param out_length Its bytes, TAMBURELVI_OUTPUT or more.
- * @return 0 with nothing or a release, or 1, 2, 4 to 8, 10 to 12, 15, 16, 21, 253 to 255.
+ * @return 0 with nothing or a release, or 1, 2, 4 to 8, 10 to 12, 15, 21, 253 to 255.
  */
 static inline tamburelvi_answer tamburelvi_receiver_handle_data_packet(
     tamburelvi_receiver *receiver, uint64_t reading, const tamburelvi_data_packet *packet, uint8_t *out, size_t out_length) {
@@ -1164,7 +1163,7 @@ static inline tamburelvi_answer tamburelvi_receiver_handle_data_packet(
  * @param packet The packet.
  * @param out Output. A release is in its first bytes (tamburelvi_records_of).
  * @param out_length Its bytes, TAMBURELVI_OUTPUT or more.
- * @return 0 with nothing or a release, or 4, 6, 7, 10, 15, 16, 21, 253 to 255.
+ * @return 0 with nothing or a release, or 4, 6, 7, 10, 15, 21, 253 to 255.
  */
 static inline tamburelvi_answer tamburelvi_receiver_handle_sync_packet(
     tamburelvi_receiver *receiver, uint64_t reading, const tamburelvi_sync_packet *packet, uint8_t *out, size_t out_length) {

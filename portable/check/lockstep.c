@@ -43,7 +43,7 @@ static uint64_t below(uint64_t n) {
 }
 static bool one_in(uint64_t n) { return below(n) == 0; }
 
-/* Whether random calls bring the number about. No call leaves a table that gives 16. */
+/* Whether random calls bring the number about. 16 is not used. */
 static bool given(int number) { return number < 16 || number == 21; }
 
 static void differ(const char *what) {

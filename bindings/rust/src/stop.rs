@@ -3,12 +3,13 @@
 use crate::{Cid, ffi};
 use core::fmt::{self, Write as _};
 
-/// What stops a call, with the values that go with it: the numbers 1 to 16 and 21 of the receiver's table.
+/// What stops a call, with the values that go with it: the numbers 1 to 15 and 21 of the receiver's table.
 ///
 /// A stop is an answer, not a fault of the receiver, which goes on with the next call. 4, 5 and 9 are announcements that were asked for. A node with two
 /// network ports hears each packet twice: 21 is then no fault and need not be logged, 7 is one. Shown, a stop is a sentence that ends in its number.
 ///
-/// Later versions may have further numbers. A number that this version does not know never becomes a `Stop`: it is a bug, and the call panics and names it.
+/// Later versions may have further numbers; 16 was given up and is not used again. A number that this version does not know never becomes a `Stop`: it is a
+/// bug, and the call panics and names it.
 ///
 /// ```
 /// use tamburelvi::{Receiver, Stop};
@@ -61,8 +62,6 @@ pub enum Stop {
     LimitZero,
     /// 15: lent memory is too short; the bytes needed. This crate lends enough, so no call gives it.
     TooShort(usize),
-    /// 16: a source is listed without pairs. No call leaves such a table, so no call gives it.
-    SourceWithoutPairs,
     /// 21: the last sequence number again. The packet was not taken, and nothing changed but what the poll swept. A repeat renews neither the sequence number
     /// nor the reading, so a source that only repeats itself expires.
     Repeated {
@@ -94,7 +93,6 @@ impl Stop {
             Stop::PagesFull => 13,
             Stop::LimitZero => 14,
             Stop::TooShort(_) => 15,
-            Stop::SourceWithoutPairs => 16,
             Stop::Repeated { .. } => 21,
         }
     }
@@ -130,7 +128,6 @@ impl fmt::Display for Stop {
             Stop::PagesFull => write!(f, "the discovered sources are full: 64 pages"),
             Stop::LimitZero => write!(f, "the source limit cannot be 0"),
             Stop::TooShort(n) => write!(f, "the lent memory is too short: {n} bytes are needed"),
-            Stop::SourceWithoutPairs => write!(f, "a source is listed without pairs"),
             Stop::Repeated { arriving, .. } => write!(
                 f,
                 "sequence number {arriving} is a repeat: it is the last one accepted"
@@ -260,7 +257,6 @@ fn stop_of(a: &ffi::Answer, name: Option<&[u8]>) -> Stop {
         (13, ffi::NONE) => Stop::PagesFull,
         (14, ffi::NONE) => Stop::LimitZero,
         (15, ffi::ONE) => Stop::TooShort(a.first),
-        (16, ffi::NONE) => Stop::SourceWithoutPairs,
         (21, ffi::SEQUENCE) => Stop::Repeated {
             arriving: narrow(a.first),
             last: narrow(a.second),
@@ -306,7 +302,7 @@ mod tests {
     }
 
     // Every number but 0, with its kind of values.
-    const KINDS: [(u8, u8); 17] = [
+    const KINDS: [(u8, u8); 16] = [
         (1, 1),
         (2, 1),
         (3, 1),
@@ -322,7 +318,6 @@ mod tests {
         (13, 0),
         (14, 0),
         (15, 1),
-        (16, 0),
         (21, 4),
     ];
 
@@ -341,16 +336,17 @@ mod tests {
     }
 
     #[test]
-    #[should_panic(expected = "a bug: libtamburelvi.a answered 17 with values of kind 0,")]
-    fn an_unknown_number_is_a_bug() {
-        let _ = stopped(&answer(17, ffi::NONE), None);
+    #[should_panic(expected = "a bug: libtamburelvi.a answered 16 with values of kind 0,")]
+    fn the_number_that_was_given_up_is_a_bug() {
+        let _ = stopped(&answer(16, ffi::NONE), None);
     }
 
-    // What lies between the numbers and just above them, also with the values of 7 and 21.
+    // Whatever its values.
     #[test]
-    fn every_number_between_is_a_bug() {
-        for number in [17, 18, 19, 20, 22] {
-            for kind in [ffi::NONE, ffi::SEQUENCE] {
+    fn every_other_number_is_a_bug() {
+        let known = |number| number == 0 || KINDS.iter().any(|&(n, _)| n == number);
+        for number in (0..=255).filter(|&n| !known(n)) {
+            for kind in ffi::NONE..=ffi::ANNOUNCED {
                 let end = catch_unwind(|| stopped(&answer(number, kind), Some(b"a desk")));
                 let said = end.unwrap_err().downcast::<String>().unwrap();
                 let bug = alloc::format!(
@@ -359,12 +355,6 @@ mod tests {
                 assert!(said.starts_with(&bug), "{said}");
             }
         }
-    }
-
-    #[test]
-    #[should_panic(expected = "a bug: libtamburelvi.a answered 255 with values of kind 1,")]
-    fn the_last_unknown_number_is_a_bug() {
-        let _ = stopped(&answer(255, ffi::ONE), None);
     }
 
     #[test]

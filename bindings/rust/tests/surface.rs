@@ -264,10 +264,6 @@ fn every_stop_is_a_sentence_with_its_number() {
             "the lent memory is too short: 35072 bytes are needed (number 15)",
         ),
         (
-            Stop::SourceWithoutPairs,
-            "a source is listed without pairs (number 16)",
-        ),
-        (
             repeated,
             "sequence number 10 is a repeat: it is the last one accepted (number 21)",
         ),
@@ -276,7 +272,7 @@ fn every_stop_is_a_sentence_with_its_number() {
         assert_eq!(stop.to_string(), text);
     }
     let numbers = all.map(|(stop, _)| stop.number());
-    assert!(numbers.into_iter().eq((1..=16).chain([21])), "{numbers:?}");
+    assert!(numbers.into_iter().eq((1..=15).chain([21])), "{numbers:?}");
     assert_eq!(
         Stop::SourcesExceeded(1).to_string(),
         "the source limit is reached: 1 source (number 6)"
@@ -287,7 +283,7 @@ fn every_stop_is_a_sentence_with_its_number() {
     );
 }
 
-/// 1 to 14 and 21 through the library; 15 and 16 cannot be given to this crate.
+/// 1 to 14 and 21 through the library; 15 cannot be given to this crate.
 #[test]
 fn every_number_that_can_be_given_is_given() {
     // 1, in the order name, list

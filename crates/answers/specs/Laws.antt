@@ -37,7 +37,6 @@ stop-tells (checked.UniverseTimeout c u) = record { number-is = refl; values-are
 stop-tells (checked.SourcesExceeded n) = record { number-is = refl; values-are = λ own. refl }
 stop-tells (checked.OutOfSequence a l d) = record { number-is = refl; values-are = λ own. refl }
 stop-tells checked.PairsFull = record { number-is = refl; values-are = λ own. refl }
-stop-tells checked.SourceWithoutPairs = record { number-is = refl; values-are = λ own. refl }
 stop-tells (checked.Repeated a l d) = record { number-is = refl; values-are = λ own. refl }
 
 -- a release's number; its values are told where records are left

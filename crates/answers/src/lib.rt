@@ -40,7 +40,6 @@ pub fn stop_answer(a: Checked) -> StepAnswer
         Checked::SourcesExceeded(n) => StepAnswer::SourcesExceeded(n),
         Checked::OutOfSequence(a, l, d) => StepAnswer::OutOfSequence(a, l, d),
         Checked::PairsFull => StepAnswer::PairsFull,
-        Checked::SourceWithoutPairs => StepAnswer::SourceWithoutPairs,
         Checked::Repeated(a, l, d) => StepAnswer::Repeated(a, l, d),
     }
 }

@@ -34,7 +34,6 @@ fn number_of(answer: Checked) -> u8
         Checked::SourcesExceeded(_) => 6,
         Checked::OutOfSequence(_, _, _) => 7,
         Checked::PairsFull => 10,
-        Checked::SourceWithoutPairs => 16,
         Checked::Repeated(_, _, _) => 21,
     }
 }

@@ -145,7 +145,6 @@ toldOf says.ListenedFull = bareOf 11
 toldOf says.WaitingFull = bareOf 12
 toldOf says.PagesFull = bareOf 13
 toldOf (says.TooShort n) = oneOf 15 n
-toldOf says.SourceWithoutPairs = bareOf 16
 toldOf (says.Repeated a l d) = sequenceOf 21 a l d
 
 abbrev pub polledOf : PollAnswer → Answer

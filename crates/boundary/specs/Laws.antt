@@ -56,7 +56,6 @@ step-number says.ListenedFull = refl
 step-number says.WaitingFull = refl
 step-number says.PagesFull = refl
 step-number (says.TooShort n) = refl
-step-number says.SourceWithoutPairs = refl
 step-number (says.Repeated a l d) = refl
 
 pub step-values : (own : List ℕ) (a : StepAnswer) → valuesIn own (toldOf a) ≡ stepValues own a
@@ -75,7 +74,6 @@ step-values own says.ListenedFull = refl
 step-values own says.WaitingFull = refl
 step-values own says.PagesFull = refl
 step-values own (says.TooShort n) = refl
-step-values own says.SourceWithoutPairs = refl
 step-values own (says.Repeated a l d) = refl
 
 -- ── the further calls ──

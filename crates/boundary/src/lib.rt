@@ -340,7 +340,6 @@ pub fn told(a: StepAnswer) -> Answer
         StepAnswer::WaitingFull => bare(12),
         StepAnswer::PagesFull => bare(13),
         StepAnswer::TooShort(n) => one(15, n),
-        StepAnswer::SourceWithoutPairs => bare(16),
         StepAnswer::Repeated(a, l, d) => sequenced(21, a, l, d),
     }
 }

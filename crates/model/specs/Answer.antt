@@ -33,7 +33,6 @@ stepNumber says.ListenedFull = 11
 stepNumber says.WaitingFull = 12
 stepNumber says.PagesFull = 13
 stepNumber (says.TooShort n) = 15
-stepNumber says.SourceWithoutPairs = 16
 stepNumber (says.Repeated a l d) = 21
 
 -- the values of a step's answer; number 9 returns the name of the packet in hand
@@ -53,7 +52,6 @@ stepValues own says.ListenedFull = []
 stepValues own says.WaitingFull = []
 stepValues own says.PagesFull = []
 stepValues own (says.TooShort n) = number n ∷ []
-stepValues own says.SourceWithoutPairs = []
 stepValues own (says.Repeated a l d) = number a ∷ number l ∷ integer d ∷ []
 
 abbrev pub pollNumber : PollAnswer → ℕ

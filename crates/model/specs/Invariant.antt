@@ -19,7 +19,6 @@ use Rattle.rules.specs.Age.{data-loss}
 use Rattle.settings.specs.declared.Settings.{Settings}
 use Rattle.pairs.specs.declared.Pair.{Pair}
 use Rattle.pairs.specs.declared.Checked.{Checked}
-use Rattle.pairs.specs.declared.Checked.the-variants as checked
 use Rattle.pairs.specs.Table as pairs
 use Rattle.pairs.specs.Laws as pair-laws
 use Rattle.merge.specs.Merge.{Dmx, most-values}
@@ -344,11 +343,3 @@ run-from (c ∷ cs) s k = run-from cs (call c s) (call-kept c s k)
 -- THE INVARIANT of every list of calls from a fresh receiver
 pub run-kept : (cs : List Call) → Kept (run cs fresh)
 run-kept cs = run-from cs fresh kept-fresh
-
--- so number 16 is never given: each listed CID has a pair
-pub never-16 : (cs : List Call) (S : Settings) (p : Pair)
-    → (pairs.check (S .«source_limit») (S .«announce_timeout») p (run cs fresh .data-pairs) .1 ≢ checked.SourceWithoutPairs)
-    × (pairs.check (S .«source_limit») (S .«announce_timeout») p (run cs fresh .sync-pairs) .1 ≢ checked.SourceWithoutPairs)
-never-16 cs S p =
-    let k = run-kept cs in
-    (pair-laws.never-16 (S .«source_limit») (S .«announce_timeout») p _ (k .kept-data .good), pair-laws.never-16 (S .«source_limit») (S .«announce_timeout») p _ (k .kept-sync .good))

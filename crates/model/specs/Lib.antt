@@ -9,3 +9,5 @@ pub mod ListenExamples
 pub mod Invariant
 pub mod Repeats
 pub mod Without16
+pub mod StepAnswer16
+pub mod With16

@@ -139,7 +139,6 @@ stopped (checked.UniverseTimeout c u) = says.UniverseTimeout c u
 stopped (checked.SourcesExceeded n) = says.SourcesExceeded n
 stopped (checked.OutOfSequence a l d) = says.OutOfSequence a l d
 stopped checked.PairsFull = says.PairsFull
-stopped checked.SourceWithoutPairs = says.SourceWithoutPairs
 stopped (checked.Repeated a l d) = says.Repeated a l d
 
 -- what goes on where the arrival is accepted

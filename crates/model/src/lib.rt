@@ -32,8 +32,6 @@ pub enum StepAnswer {
     PagesFull,
     // 15: the length needed.
     TooShort(usize),
-    // 16
-    SourceWithoutPairs,
     // 21: arriving, last, difference.
     Repeated(u8, u8, i8),
 }

@@ -2,15 +2,14 @@
 -- Assumes nothing.
 use mathlib.Core.Path.{_≡_, refl, ap}
 use mathlib.Core.Bool.{Bool, true, false, not}
-use mathlib.Core.Option.{none, some}
 use mathlib.Core.List.{List, [], _∷_}
 use Prim.Native.Nat.{ℕ, _≤_}
 use native.Mathlib.Omega.{arith}
 use lib.Dec.{ltb}
 use borrow.Author.Tests.{ltb-false, le-ltb}
-use Rattle.laws.specs.Cases.{split, clash, missing}
+use Rattle.laws.specs.Cases.{split, clash}
 use Rattle.laws.specs.Order.{Order, tri, keyed}
-use Rattle.laws.specs.Table.{keep, any, find, store, remove, Ascending, other-than, find-key, remove-keep}
+use Rattle.laws.specs.Table.{keep, any, store, remove, Ascending, other-than, remove-keep}
 use Rattle.rules.specs.declared.Cid.{Cid}
 use Rattle.rules.specs.Cid.{same, before, cid-order, same-refl}
 use Rattle.pairs.specs.declared.Pair.{Pair}
@@ -51,15 +50,6 @@ module _ {K E : Type 0} (lt : K → K → Bool) (key : E → K) (O : Order lt) (
       (λ p. clash (rw p) a)
       (λ p. let b : any t es ≡ false = cc in let r = any-store x es h b in tri lt O (key e) (key x) (λ f g. cc) (λ f. let i = O .irrefl (key x) in cc) (λ f g. cc))
 
-  -- an entry that is found passes no test that none passes
-  pub any-found : (k : K) (x : E) (es : List E) → find lt key k es ≡ some x → any t es ≡ false → t x ≡ false
-  unfolding any find
-  any-found k x [] h a = missing x h refl
-  any-found k x (e ∷ es) h a =
-      split (t e)
-      (λ p. clash (rw p) a)
-      (λ p. let b : any t es ≡ false = cc in tri lt O (key e) k (λ f g. any-found k x es (cc) b) (λ f. let i = O .irrefl k in let s : some e ≡ some x = cc in cc) (λ f g. missing x h (cc)))
-
 -- ── the header's notes after each call ──
 pub older-less : (o l : ℕ) (ps : List Pair) → l ≤ o → older o ps ≡ false → older l ps ≡ false
 older-less o l ps h a = any-agree (λ p. ltb (p .reading) l) (λ p. ltb (p .reading) o) ps (λ p e. le-ltb (p .reading) l (omega (arith, ltb-false (p .reading) o e))) a
@@ -69,13 +59,6 @@ older-stored o l p ps h g a = any-store key-before keyOf key-order (λ q. ltb (q
 
 pub older-removed : (o : ℕ) (k : Key) (ps : List Pair) → older o ps ≡ false → older o (remove key-before keyOf k ps) ≡ false
 older-removed o k ps a = any-remove key-before keyOf key-order (λ q. ltb (q .reading) o) k ps a
-
--- a listed CID has a pair
-pub lonely-has : (c d : Cid) (ps : List Pair) (cs : List Cid) → find before itself c cs ≡ some d → lonely ps cs ≡ false → has ps c ≡ true
-lonely-has c d ps cs h a =
-    let e : d ≡ c = find-key before itself cid-order c d cs h in
-    let f = any-found before itself cid-order (λ x. not (has ps x)) c d cs h a in
-    split (has ps c) (λ g. g) (λ g. clash (rw (e, g)) f)
 
 pub lonely-swept : (ps : List Pair) (cs : List Cid) → lonely ps (keep (has ps) cs) ≡ false
 unfolding any keep

@@ -17,7 +17,7 @@ use Rattle.rules.specs.Cid.{before, cid-order}
 use Rattle.rules.specs.Age.{expired}
 use Rattle.settings.specs.declared.SourceLimit.{SourceLimit}
 use Rattle.pairs.specs.declared.Pair.{Pair}
-use Rattle.pairs.specs.declared.Checked.the-variants.{Accepted, SourcesExceeded, PairsFull, SourceWithoutPairs}
+use Rattle.pairs.specs.declared.Checked.the-variants.{Accepted, SourcesExceeded, PairsFull}
 use Rattle.pairs.specs.Table.{keyOf, key-before, itself, Table, capacity, pairAt, has, listed, live, swept, unknown, full, check-sequence, stopping, sequence-stop, source-stop, reached, stop, recorded, accepted}
 use Rattle.pairs.specs.Laws.{stale, refused-either}
 use Rattle.pair_rows.specs.View.{lonely}
@@ -33,13 +33,9 @@ swept-idle now t s l =
 
 -- ── an arrival after the sweep, by the order of its tests ──
 module _ (limit : SourceLimit) (p : Pair) (t : Table) where
-  pub stop-listed : listed (p .cid) (t .sources) ≡ true → has (t .pairs) (p .cid) ≡ true → stop limit p t ≡ pair-stop p (t .pairs)
+  pub stop-listed : listed (p .cid) (t .sources) ≡ true → stop limit p t ≡ pair-stop p (t .pairs)
   unfolding stop source-stop full pair-stop
-  stop-listed l h = split (unknown (pairAt (keyOf p) (t .pairs)) && leb capacity (length (t .pairs))) (λ e. cc) (λ e. cc)
-
-  pub stop-lonely : listed (p .cid) (t .sources) ≡ true → has (t .pairs) (p .cid) ≡ false → stop limit p t ≡ some SourceWithoutPairs
-  unfolding stop source-stop
-  stop-lonely l h = cc
+  stop-listed l = split (unknown (pairAt (keyOf p) (t .pairs)) && leb capacity (length (t .pairs))) (λ e. cc) (λ e. cc)
 
   pub stop-limit : listed (p .cid) (t .sources) ≡ false → reached limit (length (t .sources)) ≡ true → stop limit p t ≡ some (SourcesExceeded (length (t .sources)))
   unfolding stop source-stop

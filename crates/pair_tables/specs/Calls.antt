@@ -21,12 +21,9 @@ use Rattle.pairs.specs.declared.Checked.{Checked}
 use Rattle.pairs.specs.declared.Checked.the-variants.{Accepted, UniverseTimeout, SourcesExceeded, PairsFull}
 use Rattle.pairs.specs.declared.SweepAnswer.the-variants.{Quiet, TimedOut}
 use Rattle.pairs.specs.Table.{Key, key, keyOf, key-before, itself, Table, capacity, pairAt, has, listed, leave, without, live, swept, noted, told, sweep, reached, stop, recorded, admit, check, accepted, Ordered}
-use Rattle.pairs.specs.Laws.{accepted-is, has-found, without-unknown, without-known, ordered-without, ordered-swept, noted-none, swept-quiet, admit-stored, admit-stopped, ordered-admit, check-quiet, check-told}
+use Rattle.pairs.specs.Laws.{accepted-is, without-unknown, without-known, ordered-without, ordered-swept, noted-none, swept-quiet, admit-stored, admit-stopped, ordered-admit, check-quiet, check-told}
 use Rattle.pairs.specs.Answers.{answerOf}
-use Rattle.pair_rows.specs.View.{Rows, cidOf, pairsOf, sourcesOf, older, lonely, lower, last-reading, noteOf, foundAt}
-use Rattle.pair_rows.specs.declared.Found.the-variants.{At}
-use Rattle.pair_rows.specs.Stores.{placed-at}
-use Rattle.laws.specs.Place.{place}
+use Rattle.pair_rows.specs.View.{Rows, cidOf, pairsOf, sourcesOf, older, lonely, lower, last-reading, noteOf}
 use Rattle.pair_tables.specs.View.{tableOf, renewed, quiet, reading-noted, Kept, Follows, Unmoved, answered, removal, Renews, pair-stop, PairsKept, Stored, Admitted, RenewsPair}
 use Rattle.pair_rows.specs.Rows.{older-lower, lower-fresh}
 use Rattle.pair_sweeps.specs.Sweep.{fresh, note-none, note-some}
@@ -36,12 +33,6 @@ use Rattle.pair_tables.specs.Admit.{swept-idle, stop-listed, stop-limit,
 -- the number of rows in use is what the header says
 pub used : {E : Type 0} (f : List ℕ → E) (n : ℕ) (rows : Rows) → n ≤ capacity → length rows ≡ capacity → length (map f (take n rows)) ≡ n
 used f n rows h l = length-map (take n rows) f ∙ omega (arith, length-take n rows)
-
--- a pair that is found is held
-pub found-has : (p : Pair) (ps : List Pair) (at : ℕ) → At at ≡ foundAt (keyOf p) ps → has ps (p .cid) ≡ true
-found-has p ps at e =
-    let h = placed-at (place key-before keyOf (keyOf p) ps) at (pairAt (keyOf p) ps) (sym e) in
-    has-found (keyOf p) (h .0) ps (h .1)
 
 -- a pair is stored among the rows
 pub stored-as : (t : PairTable) (pairs : Rows) (p : Pair) (n o : ℕ) (after : Rows) → PairsKept t pairs → length after ≡ capacity → n ≤ capacity
@@ -232,12 +223,12 @@ module _ (t : PairTable) (pairs sources : Rows) (k : Kept t pairs sources) where
             };
           }
 
-    -- the CID is listed and has a pair: the pairs decide
-    pub admit-listed : (d : Cid) (u : PairTable) (pairs′ : Rows) (a : Checked) → find before itself (p .cid) (here .sources) ≡ some d → has (here .pairs) (p .cid) ≡ true
+    -- the CID is listed: the pairs decide
+    pub admit-listed : (d : Cid) (u : PairTable) (pairs′ : Rows) (a : Checked) → find before itself (p .cid) (here .sources) ≡ some d
         → Admitted t pairs u pairs′ a p → Follows u pairs′ sources a (admit limit p here)
     unfolding recorded
-    admit-listed d u pairs′ a f h =
-        let s = stop-listed limit p here (listed-some (p .cid) d (here .sources) f) h in
+    admit-listed d u pairs′ a f =
+        let s = stop-listed limit p here (listed-some (p .cid) d (here .sources) f) in
         ⊎-elim
         (λ w.
         let es : sourcesOf (u .«source_count») sources ≡ store before itself (p .cid) (here .sources) =
@@ -318,7 +309,7 @@ module _ (t : PairTable) (pairs sources : Rows) (k : Kept t pairs sources) where
     renews-listed d pairs′ done h f r = record {
       accepted = λ e limit.
           subst (λ (said : Table × Checked). Follows (reading-noted (p .reading) t) pairs′ sources Accepted said) (sym (check-quietly limit announce p h))
-          (admit-listed limit p d (reading-noted (p .reading) t) pairs′ Accepted f (r .held e) (r .stored e));
+          (admit-listed limit p d (reading-noted (p .reading) t) pairs′ Accepted f (r .stored e));
       left = r .left;
     }
 

@@ -20,7 +20,7 @@ use Rattle.pair_rows.specs.declared.Found.the-variants.{At}
 use Rattle.pairs.specs.declared.Checked.{Checked}
 use Rattle.pairs.specs.declared.Checked.the-variants.{Accepted, PairsFull}
 use Rattle.pairs.specs.declared.SweepAnswer.{SweepAnswer}
-use Rattle.pairs.specs.Table.{Key, keyOf, key-before, itself, Table, capacity, empty, pairAt, has, without, unknown, sequence-stop, check, accepted, Ordered}
+use Rattle.pairs.specs.Table.{Key, keyOf, key-before, itself, Table, capacity, empty, pairAt, without, unknown, sequence-stop, check, accepted, Ordered}
 use Rattle.pairs.specs.Answers.{answerOf}
 use Rattle.pairs.specs.Laws.{stale}
 use Rattle.pair_rows.specs.View.{Rows, pairsOf, sourcesOf, older, lonely, lower, last-reading, foundAt}
@@ -122,7 +122,6 @@ pub record Judged (p : Pair) (ps : List Pair) (answer : Checked) : Type 0 where
 
 -- a pair that is held is stored anew; or all is left
 pub record RenewsPair (t : PairTable) (pairs : Rows) (p : Pair) (after : Rows) (done : Bool) : Type 0 where
-  pub held : done ≡ true → has (pairsOf (t .count) pairs) (p .cid) ≡ true
   pub stored : done ≡ true → Admitted t pairs (reading-noted (p .reading) t) after Accepted p
   pub left : done ≡ false → after ≡ pairs
 

@@ -11,7 +11,7 @@ ghost use lib.ListN.{length};
 ghost use Rattle.laws.specs.Table.{remove};
 ghost use Rattle.rules.specs.Age.{expired};
 ghost use Rattle.rules.specs.Cid.{before};
-ghost use Rattle.pairs.specs.Table.{capacity, key, itself, has, sweep, admit, check};
+ghost use Rattle.pairs.specs.Table.{capacity, key, itself, sweep, admit, check};
 ghost use Rattle.pair_rows.specs.View.{pairsOf, sourcesOf, foundAt};
 ghost use Rattle.pair_tables.specs.Contracts.{table-before, Leaves};
 ghost use Rattle.pair_tables.specs.View.{answered, removal, renewed, quiet, reading-noted, Kept, Emptied, Unmoved, PairsKept, Stored, Admitted, Judged, RenewsPair, Renews, NewPair, KnownPair, NewSource, arriving};
@@ -403,17 +403,6 @@ impl PairTable {
         }
     }
 
-    // Whether a listed CID has a pair.
-    fn owns_pair(self, pairs: &PairRows, cid: Cid) -> bool
-        requires { ⌜ (self .count ≤ capacity) × (length (now pairs) ≡ capacity) × (self .tidy ≡ true → has (pairsOf (self .count) (now pairs)) cid ≡ true) ⌝ }
-        ensures { λ r. ⌜ r ≡ has (pairsOf (self .count) (now (pairs .entry))) cid ⌝ }
-    {
-        if self.tidy {
-            return true;
-        }
-        has_pair(pairs, self.count, cid)
-    }
-
     // Rules 2 to 5 for a CID that is not listed.
     fn admit_source(
         self,
@@ -478,13 +467,7 @@ impl PairTable {
         let Found::At(_) = find_source(&*sources, self.source_count, cid) else {
             return self.admit_source(pairs, sources, limit, pair);
         };
-        if self.owns_pair(&*pairs, cid) {
-            return self.admit_pair(pairs, pair);
-        }
-        Arrival {
-            table: self,
-            answer: Checked::SourceWithoutPairs,
-        }
+        self.admit_pair(pairs, pair)
     }
 
     // An arrival: sweep, then rules 2 to 5. The pair carries the arriving sequence number and the reading.

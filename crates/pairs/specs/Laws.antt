@@ -28,7 +28,7 @@ use Rattle.settings.specs.declared.SourceLimit.the-variants.{Unlimited, AtMost}
 use Rattle.settings.specs.Settings.{Proper-limit}
 use Rattle.pairs.specs.declared.Pair.{Pair}
 use Rattle.pairs.specs.declared.Checked.{Checked}
-use Rattle.pairs.specs.declared.Checked.the-variants.{Accepted, UniverseTimeout, SourcesExceeded, OutOfSequence, PairsFull, SourceWithoutPairs, Repeated}
+use Rattle.pairs.specs.declared.Checked.the-variants.{Accepted, UniverseTimeout, SourcesExceeded, OutOfSequence, PairsFull, Repeated}
 use Rattle.pairs.specs.Table.{last-noted, Key, keyOf, key-before, key-order, itself, Table, capacity, empty, pairAt, has, listed, leave, without, live, swept, lowest, noted, told, sweep}
 use Rattle.pairs.specs.Table.{recorded, reached, source-stop, unknown, full, told-as, stopping, sequence-stop, stop, settle, admit, after-sweep, check, numberOf, valuesOf, accepted, Ordered}
 
@@ -39,7 +39,6 @@ accepted-is (UniverseTimeout c u) e = let z : _≡_ {A = ℕ} 0 1 = cc in absurd
 accepted-is (SourcesExceeded n) e = let z : _≡_ {A = ℕ} 0 1 = cc in absurd (omega arith)
 accepted-is (OutOfSequence a l d) e = let z : _≡_ {A = ℕ} 0 1 = cc in absurd (omega arith)
 accepted-is PairsFull e = let z : _≡_ {A = ℕ} 0 1 = cc in absurd (omega arith)
-accepted-is SourceWithoutPairs e = let z : _≡_ {A = ℕ} 0 1 = cc in absurd (omega arith)
 accepted-is (Repeated a l d) e = let z : _≡_ {A = ℕ} 0 1 = cc in absurd (omega arith)
 
 -- ── the sequence rule ──
@@ -345,15 +344,15 @@ good-swept now t g = record {
   counted = rw (g .counted) (cids-keep (live now) (t .pairs));
 }
 
-pub ordered-told : (t : Table) (o : Option Pair) → Ordered t → Ordered (told t o .0)
-unfolding told
-ordered-told t none o = o
-ordered-told t (some p) o = ordered-without (keyOf p) t o
-
 pub good-told : (t : Table) (o : Option Pair) → GoodTable t → GoodTable (told t o .0)
 unfolding told
 good-told t none g = g
 good-told t (some p) g = good-without (keyOf p) t g
+
+pub ordered-told : (t : Table) (o : Option Pair) → Ordered t → Ordered (told t o .0)
+unfolding told
+ordered-told t none o = o
+ordered-told t (some p) o = ordered-without (keyOf p) t o
 
 pub ordered-sweep : (announce : Bool) (now : ℕ) (t : Table) → Ordered t → Ordered (sweep announce now t .0)
 unfolding sweep
@@ -521,7 +520,7 @@ good-check limit announce p t g =
     (λ h. rw (check-quiet limit announce p t (sweep announce (p .reading) t .0) (λ i. (sweep announce (p .reading) t .0, h i))) (good-admit limit p _ s))
     (λ k h. rw (check-told limit announce p t (sweep announce (p .reading) t .0) k (λ i. (sweep announce (p .reading) t .0, h i))) s)
 
--- each listed CID has a pair, so 2. is a matter of the limit alone, and 3. of the pairs alone
+-- each listed CID has a pair, so 2. asks for a pair and the limit, and 3. is a matter of the pairs alone
 pub source-stop-good : (limit : SourceLimit) (c : Cid) (t : Table) → GoodTable t
     → source-stop limit c t ≡ cond (has (t .pairs) c) none (cond (reached limit (length (t .sources))) (some (SourcesExceeded (length (t .sources)))) none)
 unfolding source-stop
@@ -537,33 +536,6 @@ full-good p t g =
     (λ h. cc)
     (λ h. let q = lt-leb capacity (length (t .sources)) (omega (arith, leb-false capacity (length (t .pairs)) h)) in split (listed (p .cid) (t .sources)) (λ e. cc) (λ e. cc)))
     (λ x n. let f = has-found (keyOf p) x (t .pairs) n in cc)
-
--- 16 is never given there
-never-16-by-sequence : (n : ℕ) (o : Option Pair) → sequence-stop n o ≢ some SourceWithoutPairs
-never-16-by-sequence n o e = clash refl (refused-either (λ a. eqb (numberOf a) 16 ≡ false) n o SourceWithoutPairs e (λ x y z. refl) (λ x y z. refl))
-
-pub never-stopped-16 : (limit : SourceLimit) (p : Pair) (t : Table) → GoodTable t → stop limit p t ≢ some SourceWithoutPairs
-unfolding stop
-never-stopped-16 limit p t g h =
-    let s = source-stop-good limit (p .cid) t g in
-    let z : _≡_ {A = ℕ} 0 1 =
-    split (has (t .pairs) (p .cid))
-    (λ e. split (full p t) (λ f. cc) (λ f. absurd (never-16-by-sequence (p .sequence) (pairAt (keyOf p) (t .pairs)) (cc))))
-    (λ e. split (reached limit (length (t .sources)))
-    (λ r. cc)
-    (λ r. split (full p t) (λ f. cc) (λ f. absurd (never-16-by-sequence (p .sequence) (pairAt (keyOf p) (t .pairs)) (cc))))) in
-    absurd (omega arith)
-
-pub never-16 : (limit : SourceLimit) (announce : Bool) (p : Pair) (t : Table) → GoodTable t → check limit announce p t .1 ≢ SourceWithoutPairs
-never-16 limit announce p t g h =
-    let u = sweep announce (p .reading) t .0 in
-    let s = good-sweep announce (p .reading) t g in
-    found (sweep announce (p .reading) t .1)
-    (λ e. let q = check-quiet limit announce p t u (λ i. (u, e i)) in
-    found (stop limit p u)
-    (λ f. let r = admit-stored limit p u f in let z : _≡_ {A = ℕ} 0 1 = cc in absurd (omega arith))
-    (λ a f. let r = admit-stopped limit p u a f in never-stopped-16 limit p u s (cc)))
-    (λ k e. let q = check-told limit announce p t u k (λ i. (u, e i)) in let z : _≡_ {A = ℕ} 0 1 = cc in absurd (omega arith))
 
 -- a pair that stands in a list above a key is above it
 under-found : (j k : Key) (p : Pair) (ps : List Pair) → Under key-before keyOf j ps → pairAt k ps ≡ some p → key-before j k ≡ true

@@ -21,7 +21,7 @@ use Rattle.settings.specs.declared.SourceLimit.{SourceLimit}
 use Rattle.settings.specs.declared.SourceLimit.the-variants.{Unlimited, AtMost}
 use Rattle.pairs.specs.declared.Pair.{Pair}
 use Rattle.pairs.specs.declared.Checked.{Checked}
-use Rattle.pairs.specs.declared.Checked.the-variants.{Accepted, UniverseTimeout, SourcesExceeded, OutOfSequence, PairsFull, SourceWithoutPairs, Repeated}
+use Rattle.pairs.specs.declared.Checked.the-variants.{Accepted, UniverseTimeout, SourcesExceeded, OutOfSequence, PairsFull, Repeated}
 
 -- "A pair is a CID and a universe or address"
 pub record Key : Type 0 where
@@ -136,21 +136,20 @@ accepted (UniverseTimeout c u) = false
 accepted (SourcesExceeded n) = false
 accepted (OutOfSequence a l d) = false
 accepted PairsFull = false
-accepted SourceWithoutPairs = false
 accepted (Repeated a l d) = false
 
 abbrev pub stopping : Checked → Option Checked
 stopping a = cond (accepted a) none (some a)
 
--- ── 2. "CID not listed and the number of listed CIDs at the limit: 6. CID listed without any pair: 16." ──
+-- ── 2. "CID not listed and the number of listed CIDs at the limit: 6." A listed CID passes: document 02, F-11, took away the branch for one
+-- without any pair, "a broken table handed in goes on to the pair table's rule 3" ──
 abbrev pub reached : SourceLimit → ℕ → Bool
 reached Unlimited n = false
 reached (AtMost m) n = leb m n
 
 unfoldable pub source-stop : SourceLimit → Cid → Table → Option Checked
 source-stop limit c t =
-    cond (listed c (t .sources))
-    (cond (has (t .pairs) c) none (some SourceWithoutPairs))
+    cond (listed c (t .sources)) none
     (cond (reached limit (length (t .sources))) (some (SourcesExceeded (length (t .sources)))) none)
 
 -- ── 3. "Pair unknown and 1,024 held: 10." A broken table that lists 1,024 other CIDs has no room for a further one either ──
@@ -208,7 +207,6 @@ numberOf (UniverseTimeout c u) = 4
 numberOf (SourcesExceeded n) = 6
 numberOf (OutOfSequence a l d) = 7
 numberOf PairsFull = 10
-numberOf SourceWithoutPairs = 16
 numberOf (Repeated a l d) = 21
 
 abbrev pub valuesOf : Checked → List Value
@@ -217,7 +215,6 @@ valuesOf (UniverseTimeout c u) = source c ∷ number u ∷ []
 valuesOf (SourcesExceeded n) = number n ∷ []
 valuesOf (OutOfSequence a l d) = number a ∷ number l ∷ integer d ∷ []
 valuesOf PairsFull = []
-valuesOf SourceWithoutPairs = []
 valuesOf (Repeated a l d) = number a ∷ number l ∷ integer d ∷ []
 
 -- ── what may be presupposed: "tables in their order and within their counts" ──

@@ -27,8 +27,6 @@ pub enum Checked {
     OutOfSequence(u8, u8, i8),
     // Number 10.
     PairsFull,
-    // Number 16.
-    SourceWithoutPairs,
     // Number 21: arriving, last, difference.
     Repeated(u8, u8, i8),
 }
@@ -73,7 +71,6 @@ pub fn is_accepted(answer: Checked) -> bool
         Checked::SourcesExceeded(_) => false,
         Checked::OutOfSequence(_, _, _) => false,
         Checked::PairsFull => false,
-        Checked::SourceWithoutPairs => false,
         Checked::Repeated(_, _, _) => false,
     }
 }

@@ -62,5 +62,4 @@ stepLine own out says.ListenedFull = stopLine own says.ListenedFull
 stepLine own out says.WaitingFull = stopLine own says.WaitingFull
 stepLine own out says.PagesFull = stopLine own says.PagesFull
 stepLine own out (says.TooShort n) = stopLine own (says.TooShort n)
-stepLine own out says.SourceWithoutPairs = stopLine own says.SourceWithoutPairs
 stepLine own out (says.Repeated a l d) = stopLine own (says.Repeated a l d)

@@ -136,7 +136,6 @@ pub fn put_step(out: &mut [u8], at: usize, answer: StepAnswer, own: &[u8], relea
         StepAnswer::WaitingFull => put_number(out, at, 12),
         StepAnswer::PagesFull => put_number(out, at, 13),
         StepAnswer::TooShort(n) => put_value(out, at, 15, n as u64),
-        StepAnswer::SourceWithoutPairs => put_number(out, at, 16),
         StepAnswer::Repeated(a, l, d) => put_sequence(out, at, 21, a, l, d),
     }
 }

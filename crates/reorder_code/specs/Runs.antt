@@ -36,7 +36,6 @@ byte-length says.ListenedFull = 0
 byte-length says.WaitingFull = 0
 byte-length says.PagesFull = 0
 byte-length (says.TooShort n) = 0
-byte-length says.SourceWithoutPairs = 0
 byte-length (says.Repeated a l d) = 0
 
 -- what the caller sees of a step: the answer's number and values, and the output within the byte length that the answer names

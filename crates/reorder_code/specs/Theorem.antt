@@ -56,7 +56,6 @@ frank-stopped (checked.UniverseTimeout c u) = refl
 frank-stopped (checked.SourcesExceeded n) = refl
 frank-stopped (checked.OutOfSequence a l d) = refl
 frank-stopped checked.PairsFull = refl
-frank-stopped checked.SourceWithoutPairs = refl
 frank-stopped (checked.Repeated a l d) = refl
 
 frank-kept : (a : StoreAnswer) → byte-length (kept a) ≡ 0
@@ -203,7 +202,6 @@ stop-silent says.ListenedFull n = refl
 stop-silent says.WaitingFull n = refl
 stop-silent says.PagesFull n = refl
 stop-silent (says.TooShort k) n = refl
-stop-silent says.SourceWithoutPairs n = refl
 stop-silent (says.Repeated a l d) n = refl
 
 pub silent-output : {S : Settings} (h : Handling S) → byte-length (h .answer) ≡ 0 → h .out′ ≡ h .out

@@ -34,9 +34,6 @@ enum-known-a-3 c = search needs
 enum-told-2 : tie.Need-enum-told-2
 enum-told-2 c = search needs
 
-enum-told-3 : tie.Need-enum-told-3
-enum-told-3 c = search needs
-
 enum-known-a-4 : tie.Need-enum-known-a-4
 enum-known-a-4 c = search needs
 
@@ -56,10 +53,7 @@ returns-5 : tie.Need-returns-5
 returns-5 c = both (c .before .before .args .a) (search needs)
 
 returns-6 : tie.Need-returns-6
-returns-6 c = both (c .before .before .args .a) (search needs)
-
-returns-7 : tie.Need-returns-7
-returns-7 c = both (c .before .before .before .args .a) (rw (toZ-ofZ {w = w8} {z = c .before .a4 .given .0 .1 .1 .0} (record { sfits = c .known-told4 .given .1 .1 .0 .1 })) (sym (ap stopped (c .before .a4 .given .1))))
+returns-6 c = both (c .before .before .before .args .a) (rw (toZ-ofZ {w = w8} {z = c .before .a4 .given .0 .1 .1 .0} (record { sfits = c .known-told4 .given .1 .1 .0 .1 })) (sym (ap stopped (c .before .a4 .given .1))))
 
 pub stop-answer-spec : {M : Type 1} → statement M
 stop-answer-spec =
@@ -70,12 +64,10 @@ stop-answer-spec =
     enum-known-a-2
     enum-known-a-3
     enum-told-2
-    enum-told-3
     enum-known-a-4
     returns
     returns-2
     returns-3
     returns-4
     returns-5
-    returns-6
-    returns-7)
+    returns-6)

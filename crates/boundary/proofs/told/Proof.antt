@@ -101,12 +101,6 @@ enum-known-a-8 c = search needs
 one-requires-4 : tie.Need-one-requires-4
 one-requires-4 c κs = search needs
 
-enum-told-8 : tie.Need-enum-told-8
-enum-told-8 c = search needs
-
-bare-requires-7 : tie.Need-bare-requires-7
-bare-requires-7 c κs = search needs
-
 enum-known-a-9 : tie.Need-enum-known-a-9
 enum-known-a-9 c = search needs
 
@@ -159,10 +153,7 @@ returns-15 : tie.Need-returns-15
 returns-15 c = c .one4 .ensures ∙ sym (ap toldOf (c .before .before .a8 .given .1))
 
 returns-16 : tie.Need-returns-16
-returns-16 c = c .bare7 .ensures ∙ sym (ap toldOf (c .before .enum-told8 .given .1))
-
-returns-17 : tie.Need-returns-17
-returns-17 c = c .sequenced2 .ensures ∙ rw (toZ-ofZ {w = w8} {z = c .before .before .a9 .given .0 .1 .1 .0} (record { sfits = c .before .known-told9 .given .1 .1 .0 .1 })) (sym (ap toldOf (c .before .before .a9 .given .1)))
+returns-16 c = c .sequenced2 .ensures ∙ rw (toZ-ofZ {w = w8} {z = c .before .before .a9 .given .0 .1 .1 .0} (record { sfits = c .before .known-told9 .given .1 .1 .0 .1 })) (sym (ap toldOf (c .before .before .a9 .given .1)))
 
 pub told-spec : {M : Type 1} → statement M
 told-spec =
@@ -199,8 +190,6 @@ told-spec =
     bare-requires-6
     enum-known-a-8
     one-requires-4
-    enum-told-8
-    bare-requires-7
     enum-known-a-9
     sequenced-requires-2
     returns
@@ -218,5 +207,4 @@ told-spec =
     returns-13
     returns-14
     returns-15
-    returns-16
-    returns-17)
+    returns-16)

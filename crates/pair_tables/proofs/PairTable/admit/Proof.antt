@@ -1,4 +1,4 @@
--- The CID is listed or not; listed, it has a pair or not.
+-- The CID is listed, and the pairs decide, or it is not.
 -- Assumes nothing.
 use mathlib.Core.Path.{_≡_, sym, _∙_}
 use mathlib.Core.Option.{Option, some}
@@ -7,14 +7,10 @@ use Rattle.laws.specs.Table.{find}
 use Rattle.laws.specs.Place.{place}
 use Rattle.rules.specs.declared.Cid.{Cid}
 use Rattle.rules.specs.Cid.{before}
-use Rattle.pairs.specs.declared.Checked.the-variants.{SourceWithoutPairs}
 use Rattle.pairs.specs.Table.{itself}
-use Rattle.pair_rows.specs.View.{pairsOf, sourcesOf}
-use Rattle.pair_tables.specs.View.{tableOf}
+use Rattle.pair_rows.specs.View.{sourcesOf}
 use Rattle.pair_rows.specs.Stores.{placed-at, placed-nothing}
-use Rattle.pair_rows.specs.Notes.{lonely-has}
-use Rattle.pair_tables.specs.Admit.{listed-some, stop-lonely}
-use Rattle.pair_tables.specs.Calls.{admit-listed, admit-stays}
+use Rattle.pair_tables.specs.Calls.{admit-listed}
 use borrow.Author.Needs.{needs}
 use Rattle.pair_tables.proofs.PairTable.admit.Statement.{statement}
 use Rattle.pair_tables.proofs.PairTable.admit.Tie as tie
@@ -28,10 +24,6 @@ module _ (c : tie.After-find-source) where
 
   abbrev what : Option Cid
   what = find before itself (start .args .pair .cid) (sourcesOf (start .args .self .«source_count») (start .args .sources .now))
-
--- the CID is listed
-hit : (c : tie.After-enum-told) → (d : Cid) × (what (c .before .before) ≡ some d)
-hit c = let h = placed-at (where-it-is (c .before .before)) _ (what (c .before .before)) (sym (c .before .before .find-source .ensures) ∙ c .enum-told .given .1) in (h .0, h .1)
 
 find-source-requires : tie.Need-find-source-requires
 find-source-requires c κs = search needs
@@ -52,33 +44,19 @@ admit-source-requires c κs =
 returns : tie.Need-returns
 returns c = search needs
 
-owns-pair-requires : tie.Need-owns-pair-requires
-owns-pair-requires c κs =
-    let e = c .before in
-    let s = start (e .before .before) in
-    let v = s .args in
-    (s .pre .count-fits, s .pre .pairs-room, λ d. lonely-has (v .pair .cid) (hit e .0) (pairsOf (v .self .count) (v .pairs .now)) (sourcesOf (v .self .«source_count») (v .sources .now)) (hit e .1) (s .pre .none-lonely d))
+-- the CID is listed
+hit : (c : tie.After-enum-told) → (d : Cid) × (what (c .before .before) ≡ some d)
+hit c = let h = placed-at (where-it-is (c .before .before)) _ (what (c .before .before)) (sym (c .before .before .find-source .ensures) ∙ c .enum-told .given .1) in (h .0, h .1)
 
 admit-pair-requires : tie.Need-admit-pair-requires
 admit-pair-requires c κs = search needs
 
 returns-2 : tie.Need-returns-2
 returns-2 c =
-    let o = c .before .before .before in
-    let e = o .before .before in
+    let e = c .before .before in
     let s = start (e .before .before) in
     let v = s .args in
-    admit-listed (v .self) (v .pairs .now) (v .sources .now) (s .pre) (v .limit) (v .pair) (hit e .0) (c .admit-pair .result .table) (c .admit-pair .last .1 .0) (c .admit-pair .result .answer) (hit e .1)
-    (sym (o .owns-pair .ensures) ∙ c .before .before .if1 .taken) (c .admit-pair .ensures)
-
-returns-3 : tie.Need-returns-3
-returns-3 c =
-    let o = c .before in
-    let e = o .before .before in
-    let s = start (e .before .before) in
-    let v = s .args in
-    admit-stays (v .self) (v .pairs .now) (v .sources .now) (s .pre) (v .limit) (v .pair) SourceWithoutPairs
-    (stop-lonely (v .limit) (v .pair) (tableOf (v .self) (v .pairs .now) (v .sources .now)) (listed-some (v .pair .cid) (hit e .0) (sourcesOf (v .self .«source_count») (v .sources .now)) (hit e .1)) (sym (o .owns-pair .ensures) ∙ c .if1 .left))
+    admit-listed (v .self) (v .pairs .now) (v .sources .now) (s .pre) (v .limit) (v .pair) (hit e .0) (c .admit-pair .result .table) (c .admit-pair .last .1 .0) (c .admit-pair .result .answer) (hit e .1) (c .admit-pair .ensures)
 
 pub admit-spec : {M : Type 1} → statement M
 admit-spec =
@@ -89,7 +67,5 @@ admit-spec =
     enum-told-2
     admit-source-requires
     returns
-    owns-pair-requires
     admit-pair-requires
-    returns-2
-    returns-3)
+    returns-2)

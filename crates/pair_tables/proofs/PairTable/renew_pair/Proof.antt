@@ -3,10 +3,8 @@
 use mathlib.Core.Path.{refl, sym, subst, _∙_}
 use mathlib.Core.Logic.{inl}
 use Rattle.laws.specs.Cases.{clash}
-use Rattle.pair_rows.specs.View.{pairsOf}
 use Rattle.pair_tables.specs.declared.PairTable.{PairTable}
 use Rattle.pair_tables.specs.View.{Stored}
-use Rattle.pair_tables.specs.Calls.{found-has}
 use borrow.Author.Needs.{needs}
 use Rattle.pair_tables.proofs.PairTable.renew_pair.Statement.{statement}
 use Rattle.pair_tables.proofs.PairTable.renew_pair.Tie as tie
@@ -21,7 +19,7 @@ enum-told : tie.Need-enum-told
 enum-told c = search needs
 
 returns : tie.Need-returns
-returns c = record { held = λ e. clash e refl; stored = λ e. clash e refl; left = λ e. refl }
+returns c = record { stored = λ e. clash e refl; left = λ e. refl }
 
 check-known-requires : tie.Need-check-known-requires
 check-known-requires c κs =
@@ -42,7 +40,6 @@ returns-2 c =
     let t = a .before .before .before .before in
     let v = t .before .before .before .before .before .args in
     record {
-      held = λ e. found-has (v .pair) (pairsOf (v .self .count) (v .pairs .now)) _ (sym (t .at .given .1) ∙ t .before .before .find .ensures);
       stored = λ e. inl (
         a .before .check-known .ensures .passes (sym (a .is-accepted .ensures) ∙ c .before .before .if1 .taken),
         refl,
@@ -52,7 +49,7 @@ returns-2 c =
     }
 
 returns-3 : tie.Need-returns-3
-returns-3 c = record { held = λ e. clash e refl; stored = λ e. clash e refl; left = λ e. refl }
+returns-3 c = record { stored = λ e. clash e refl; left = λ e. refl }
 
 pub renew-pair-spec : {M : Type 1} → statement M
 renew-pair-spec =

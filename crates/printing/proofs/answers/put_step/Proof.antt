@@ -106,12 +106,6 @@ enum-known-answer-8 c = search needs
 put-value-requires-4 : tie.Need-put-value-requires-4
 put-value-requires-4 c κs = search needs
 
-enum-told-8 : tie.Need-enum-told-8
-enum-told-8 c = search needs
-
-put-number-requires-7 : tie.Need-put-number-requires-7
-put-number-requires-7 c κs = search needs
-
 enum-known-answer-9 : tie.Need-enum-known-answer-9
 enum-known-answer-9 c = search needs
 
@@ -276,16 +270,6 @@ returns-16 : tie.Need-returns-16
 returns-16 c =
     let c1 = c .before .before in
     let c2 = c1 .before .before in
-    let c3 = c2 .before .before .before .before .before in
-    tells-as (ap (λ (a : StepAnswer). stepLine (c3 .args .own .now) (c3 .args .released .now) a) (sym (c2 .enum-told8 .given .1))) (c1 .put-number7 .ensures)
-
-same-length-17 : tie.Need-same-length-17
-same-length-17 c = search needs
-
-returns-17 : tie.Need-returns-17
-returns-17 c =
-    let c1 = c .before .before in
-    let c2 = c1 .before .before in
     let c3 = c2 .before in
     let c4 = c3 .before .before .before .before .before in
     tells-as (ap (λ (a : StepAnswer). stepLine (c4 .args .own .now) (c4 .args .released .now) a) (sym (c3 .answer9 .given .1))) (let p = c3 .answer9 .given .0 in tells-as (ap (λ (z : ℤ). answerLine 21 (number (p .0) ∷ number (p .1 .0) ∷ integer z ∷ [])) (toZ-ofZ {w = w8} {z = p .1 .1 .0} (record { sfits = c2 .known-told9 .given .1 .1 .0 .1 }))) (c1 .put-sequence2 .ensures))
@@ -325,8 +309,6 @@ put-step-spec =
     put-number-requires-6
     enum-known-answer-8
     put-value-requires-4
-    enum-told-8
-    put-number-requires-7
     enum-known-answer-9
     put-sequence-requires-2
     same-length
@@ -360,6 +342,4 @@ put-step-spec =
     same-length-15
     returns-15
     same-length-16
-    returns-16
-    same-length-17
-    returns-17)
+    returns-16)

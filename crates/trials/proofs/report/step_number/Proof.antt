@@ -54,9 +54,6 @@ enum-told-15 c = search needs
 enum-told-16 : tie.Need-enum-told-16
 enum-told-16 c = search needs
 
-enum-told-17 : tie.Need-enum-told-17
-enum-told-17 c = search needs
-
 returns : tie.Need-returns
 returns c = sym (ap stepNumber (c .enum-told .given .1))
 
@@ -105,9 +102,6 @@ returns-15 c = sym (ap stepNumber (c .enum-told15 .given .1))
 returns-16 : tie.Need-returns-16
 returns-16 c = sym (ap stepNumber (c .enum-told16 .given .1))
 
-returns-17 : tie.Need-returns-17
-returns-17 c = sym (ap stepNumber (c .enum-told17 .given .1))
-
 pub step-number-spec : {M : Type 1} → statement M
 step-number-spec =
     tie.close
@@ -128,7 +122,6 @@ step-number-spec =
     enum-told-14
     enum-told-15
     enum-told-16
-    enum-told-17
     returns
     returns-2
     returns-3
@@ -144,5 +137,4 @@ step-number-spec =
     returns-13
     returns-14
     returns-15
-    returns-16
-    returns-17)
+    returns-16)
