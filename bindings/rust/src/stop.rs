@@ -335,18 +335,11 @@ mod tests {
         }
     }
 
+    // The one that was given up, what lies between the numbers and just above them, and the last one; also with the values of 7 and 21.
     #[test]
-    #[should_panic(expected = "a bug: libtamburelvi.a answered 16 with values of kind 0,")]
-    fn the_number_that_was_given_up_is_a_bug() {
-        let _ = stopped(&answer(16, ffi::NONE), None);
-    }
-
-    // Whatever its values.
-    #[test]
-    fn every_other_number_is_a_bug() {
-        let known = |number| number == 0 || KINDS.iter().any(|&(n, _)| n == number);
-        for number in (0..=255).filter(|&n| !known(n)) {
-            for kind in ffi::NONE..=ffi::ANNOUNCED {
+    fn every_number_between_is_a_bug() {
+        for number in [16, 17, 18, 19, 20, 22, 255] {
+            for kind in [ffi::NONE, ffi::SEQUENCE] {
                 let end = catch_unwind(|| stopped(&answer(number, kind), Some(b"a desk")));
                 let said = end.unwrap_err().downcast::<String>().unwrap();
                 let bug = alloc::format!(

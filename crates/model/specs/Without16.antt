@@ -1,7 +1,7 @@
 -- Document 02, F-11: "Show that from a fresh receiver, after every list of calls, each CID counted as a source has a pair in that table, and then
 -- remove 16 and the branch that gave it. The number is not used again. From a fresh receiver all later answers are those of the receiver with the branch".
 -- Assumes nothing.
-use mathlib.Core.Path.{_≡_, refl, ap, _∙_}
+use mathlib.Core.Path.{_≡_, refl, ap}
 use mathlib.Core.Logic.{_≢_}
 use mathlib.Core.Bool.{Bool, true, false, cond, not, _&&_}
 use mathlib.Core.Option.{Option, none, some}
@@ -22,7 +22,6 @@ use Rattle.waiting.specs.Waiting as waiting
 use Rattle.waiting.specs.declared.StoreAnswer.{StoreAnswer}
 use Rattle.waiting.specs.declared.StoreAnswer.the-variants as storing
 use Rattle.discovery.specs.Discovery as discovery
-use Rattle.discovery.specs.Discovery.{Announcement}
 use Rattle.discovery.specs.declared.PageAnswer.{PageAnswer}
 use Rattle.discovery.specs.declared.PageAnswer.the-variants as paging
 use Rattle.model.specs.declared.StepAnswer.{StepAnswer}

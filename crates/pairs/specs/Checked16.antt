@@ -1,4 +1,5 @@
--- `Checked` as it was before document 02's F-11, with the case of 16, word for word. Used by nothing but With16.antt and Without16.antt.
+-- `Checked` as it was before document 02's F-11, with the case of 16: the cases of the enum of src/lib.rt, as the prover reads them.
+-- Used by nothing but With16.antt and Without16.antt, here and in model.
 -- Assumes nothing.
 use Prim.Native.Nat.{ℕ}
 use lib.IntN.{ℤ}

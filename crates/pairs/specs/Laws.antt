@@ -7,7 +7,7 @@ use mathlib.Core.Option.{Option, none, some}
 use mathlib.Core.List.{List, [], _∷_}
 use Prim.Native.Nat.{ℕ, _≤_, _-_}
 use native.Mathlib.Omega.{arith}
-use lib.Dec.{leb, eqb}
+use lib.Dec.{leb}
 use lib.ListN.{length}
 use lib.IntN.{ℤ}
 use borrow.Author.Tests.{leb-false, lt-leb}
@@ -520,7 +520,7 @@ good-check limit announce p t g =
     (λ h. rw (check-quiet limit announce p t (sweep announce (p .reading) t .0) (λ i. (sweep announce (p .reading) t .0, h i))) (good-admit limit p _ s))
     (λ k h. rw (check-told limit announce p t (sweep announce (p .reading) t .0) k (λ i. (sweep announce (p .reading) t .0, h i))) s)
 
--- each listed CID has a pair, so 2. asks for a pair and the limit, and 3. is a matter of the pairs alone
+-- a CID is listed exactly if it has a pair, so 2. asks whether it has one and, if not, the limit; 3. is a matter of the pairs alone
 pub source-stop-good : (limit : SourceLimit) (c : Cid) (t : Table) → GoodTable t
     → source-stop limit c t ≡ cond (has (t .pairs) c) none (cond (reached limit (length (t .sources))) (some (SourcesExceeded (length (t .sources)))) none)
 unfolding source-stop
