@@ -75,7 +75,7 @@ stepValues own (says.TooShort n) = number n ∷ []
 stepValues own says.SourceWithoutPairs = []
 stepValues own (says.Repeated a l d) = number a ∷ number l ∷ integer d ∷ []
 
--- ── the step ──
+-- ── document 01, 'The receiver' ──
 -- what a step leaves, answers and releases
 pub record Outcome : Type 0 where
   pub state : State
