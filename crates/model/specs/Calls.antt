@@ -1,4 +1,4 @@
--- Document 01, 'Further calls', and lists of calls.
+-- Document 01, 'Further calls'; lists of calls, and what they reply (document 02, F-11).
 -- Assumes nothing.
 use mathlib.Core.Path.{_≡_}
 use mathlib.Core.Bool.{Bool, true, false, not, cond}
@@ -115,7 +115,7 @@ run [] s = s
 run (c ∷ cs) s = run cs (call c s)
 
 -- ── what calls reply ──
--- one case a kind of call; A: the answers of a step
+-- one case a kind of call; A: the answers of a step. Not the `Reply` of `boundary`, which is a header with an answer
 pub data Reply (A : Type 0) : Type 0 where
   of-packet : A → List Dmx → Reply A
   of-poll : PollAnswer → Reply A

@@ -6,6 +6,7 @@ pub mod Calls
 pub mod Halves
 pub mod Examples
 pub mod ListenExamples
+pub mod ReplyExamples
 pub mod Invariant
 pub mod Repeats
 pub mod Without16

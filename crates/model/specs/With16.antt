@@ -1,7 +1,7 @@
 -- Document 01, 'The receiver', the step and what it answers as they were before document 02's F-11: the definition with the branch that gave 16,
--- word for word, but that `pairs.Key` is `Key`. The pair tables' part is pairs/specs/With16.antt. What gives no answer of a step is not repeated: it is
--- that of Step.antt and Calls.antt. `reply` and `replies` came with F-11 and are as in Calls.antt.
--- Used by nothing but Without16.antt, for the theorem that it replied the same, `replies-as-was`.
+-- word for word, but that `pairs.Key` is `Key`. The pair tables' part is pairs/specs/With16.antt. Repeated is what gives or takes an answer of a step, and
+-- what rests on `step`; the rest is that of Step.antt and Calls.antt. `reply` and `replies` came with F-11 and are as in Calls.antt.
+-- Used by nothing but the theorem that it replied the same, `replies-as-was` in Without16.antt.
 -- Assumes nothing.
 use mathlib.Core.Bool.{not, cond, _&&_}
 use mathlib.Core.Option.{Option, none, some}

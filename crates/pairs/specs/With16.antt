@@ -1,7 +1,7 @@
 -- Document 01, 'Pair tables', rules 2 to 5 as they were before document 02's F-11: the definition with the branch that gave 16, word for word.
 -- What gives no answer (`reached`, `full`, `recorded`, `sweep`) is not repeated: it is that of Table.antt.
--- Used by nothing but the two files Without16.antt, here and in model: the theorem that it replied the same, `replies-as-was`, the laws that lead
--- there, and `broken-as-was`.
+-- Used by nothing but the theorem that it replied the same, `replies-as-was` in model/specs/Without16.antt, and what leads there: With16.antt of model,
+-- and `check-as-was` here.
 -- Assumes nothing.
 use mathlib.Core.Bool.{Bool, true, false, cond}
 use mathlib.Core.Option.{Option, none, some}

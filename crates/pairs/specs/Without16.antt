@@ -45,11 +45,6 @@ module _ (p : Pair) (t : Table) (l : listed (p .cid) (t .sources) ≡ true) (h :
       let e : leb 1024 (length (t .pairs)) ≡ false = lt-leb 1024 (length (t .pairs)) f in
       admit-stored limit p t (rw (l, unknown-there, e))
 
-  -- where the definition with the branch stopped it with 16
-  pub broken-as-was : (limit : SourceLimit) → old.admit limit p t ≡ (t, was.SourceWithoutPairs)
-  unfolding old.admit old.settle old.stop old.source-stop
-  broken-as-was limit = rw (l, h)
-
 -- with announcements off the sweep before it unlists such a CID, so that the limit is asked
 pub swept-unlists : (now : ℕ) (c : Cid) (t : Table) → Ordered t → has (t .pairs) c ≡ false → listed c (swept now t .sources) ≡ false
 unfolding swept listed
@@ -62,7 +57,7 @@ swept-unlists now c t o h =
     (λ d n. let e : d ≡ c = find-key before itself cid-order c d (t .sources) n in rw (n, e, gone))) in
     cc
 
--- ── the definition with the branch, on a table where each listed CID has a pair ──
+-- ── the definition with the branch, on a table in order whose sources are the CIDs that have a pair (`GoodTable`) ──
 -- each answer by its own name
 abbrev pub as-was : Checked → was.Checked
 as-was Accepted = was.Accepted
