@@ -1,7 +1,7 @@
 -- Case analysis that hands over its equation: on a test, and on an option.
 -- Assumes nothing.
 use mathlib.Core.Path.{_≡_, refl}
-use mathlib.Core.Bool.{Bool, true, false}
+use mathlib.Core.Bool.{Bool, true, false, cond}
 use mathlib.Core.Option.{Option, none, some}
 use Prim.Native.Nat.{ℕ}
 use native.Mathlib.Omega.{arith}
@@ -10,6 +10,11 @@ use native.Mathlib.Omega.{arith}
 abbrev pub split {ℓ} : {C : Type ℓ} (b : Bool) → (b ≡ true → C) → (b ≡ false → C) → C
 split true f g = f refl
 split false f g = g refl
+
+-- what is done to either result of a test is done to its result
+pub cond-map : {A B : Type 0} (f : A → B) (b : Bool) (x y : A) → cond b (f x) (f y) ≡ f (cond b x y)
+cond-map f true x y = refl
+cond-map f false x y = refl
 
 -- a test that would be both
 pub clash {ℓ} : {C : Type ℓ} {b : Bool} → b ≡ true → b ≡ false → C

@@ -3,13 +3,13 @@
 -- Assumes nothing.
 use mathlib.Core.Path.{_≡_, refl, ap}
 use mathlib.Core.Logic.{_≢_}
-use mathlib.Core.Bool.{Bool, true, false, cond, not, _&&_}
+use mathlib.Core.Bool.{Bool, cond, not, _&&_}
 use mathlib.Core.Option.{Option, none, some}
 use mathlib.Core.List.{List, [], _∷_, map}
 use Prim.Native.Nat.{ℕ}
 use native.Mathlib.Omega.{arith}
 use lib.Dec.{eqb}
-use Rattle.laws.specs.Cases.{found}
+use Rattle.laws.specs.Cases.{found, cond-map}
 use Rattle.rules.specs.declared.Cid.{Cid}
 use Rattle.settings.specs.declared.Settings.{Settings}
 use Rattle.pairs.specs.declared.Checked.{Checked}
@@ -125,41 +125,23 @@ as-was (says.TooShort n) = was.TooShort n
 as-was (says.Repeated a l d) = was.Repeated a l d
 
 -- with its number and its values
-pub number-as-was : (a : StepAnswer) → old.stepNumber (as-was a) ≡ stepNumber a
-number-as-was says.Nothing = refl
-number-as-was (says.Released r b) = refl
-number-as-was (says.TooLong n) = refl
-number-as-was (says.IllegalUniverse u) = refl
-number-as-was (says.UniverseTimeout c u) = refl
-number-as-was (says.UniverseTerminated c u) = refl
-number-as-was (says.SourcesExceeded n) = refl
-number-as-was (says.OutOfSequence a l d) = refl
-number-as-was says.DmxMergeError = refl
-number-as-was says.SourceDiscovered = refl
-number-as-was says.PairsFull = refl
-number-as-was says.ListenedFull = refl
-number-as-was says.WaitingFull = refl
-number-as-was says.PagesFull = refl
-number-as-was (says.TooShort n) = refl
-number-as-was (says.Repeated a l d) = refl
-
-pub values-as-was : (own : List ℕ) (a : StepAnswer) → old.stepValues own (as-was a) ≡ stepValues own a
-values-as-was own says.Nothing = refl
-values-as-was own (says.Released r b) = refl
-values-as-was own (says.TooLong n) = refl
-values-as-was own (says.IllegalUniverse u) = refl
-values-as-was own (says.UniverseTimeout c u) = refl
-values-as-was own (says.UniverseTerminated c u) = refl
-values-as-was own (says.SourcesExceeded n) = refl
-values-as-was own (says.OutOfSequence a l d) = refl
-values-as-was own says.DmxMergeError = refl
-values-as-was own says.SourceDiscovered = refl
-values-as-was own says.PairsFull = refl
-values-as-was own says.ListenedFull = refl
-values-as-was own says.WaitingFull = refl
-values-as-was own says.PagesFull = refl
-values-as-was own (says.TooShort n) = refl
-values-as-was own (says.Repeated a l d) = refl
+pub told-as-was : (own : List ℕ) (a : StepAnswer) → (old.stepNumber (as-was a) ≡ stepNumber a) × (old.stepValues own (as-was a) ≡ stepValues own a)
+told-as-was own says.Nothing = (refl, refl)
+told-as-was own (says.Released r b) = (refl, refl)
+told-as-was own (says.TooLong n) = (refl, refl)
+told-as-was own (says.IllegalUniverse u) = (refl, refl)
+told-as-was own (says.UniverseTimeout c u) = (refl, refl)
+told-as-was own (says.UniverseTerminated c u) = (refl, refl)
+told-as-was own (says.SourcesExceeded n) = (refl, refl)
+told-as-was own (says.OutOfSequence a l d) = (refl, refl)
+told-as-was own says.DmxMergeError = (refl, refl)
+told-as-was own says.SourceDiscovered = (refl, refl)
+told-as-was own says.PairsFull = (refl, refl)
+told-as-was own says.ListenedFull = (refl, refl)
+told-as-was own says.WaitingFull = (refl, refl)
+told-as-was own says.PagesFull = (refl, refl)
+told-as-was own (says.TooShort n) = (refl, refl)
+told-as-was own (says.Repeated a l d) = (refl, refl)
 
 abbrev pub reply-as-was : Reply StepAnswer → Reply was.StepAnswer
 reply-as-was (of-packet a ds) = of-packet (as-was a) ds
@@ -178,19 +160,8 @@ reply-as-was of-reset = of-reset
 abbrev out : Outcome → old.Outcome
 out o = record { state = o .state; answer = as-was (o .answer); released = o .released }
 
-cond-out : (b : Bool) (x y : Outcome) → cond b (out x) (out y) ≡ out (cond b x y)
-cond-out true x y = refl
-cond-out false x y = refl
-
 in-turn-out : (a b c : Bool) (w x y z : Outcome) → cond a (out w) (cond b (out x) (cond c (out y) (out z))) ≡ out (cond a w (cond b x (cond c y z)))
-in-turn-out true b c w x y z = refl
-in-turn-out false true c w x y z = refl
-in-turn-out false false true w x y z = refl
-in-turn-out false false false w x y z = refl
-
-answer-out : (b : Bool) (x y : StepAnswer) → cond b (as-was x) (as-was y) ≡ as-was (cond b x y)
-answer-out true x y = refl
-answer-out false x y = refl
+in-turn-out a b c w x y z = rw (cond-map out c y z, cond-map out b x (cond c y z)) (cond-map out a w (cond b x (cond c y z)))
 
 release-out : (ds : List Dmx) (s : State) → old.release ds s ≡ out (release ds s)
 unfolding old.release release
@@ -210,7 +181,7 @@ kept-out storing.WaitingFull = refl
 
 listed-out : (S : Settings) (a : PageAnswer) → old.listed S a ≡ as-was (listed S a)
 listed-out S paging.Taken = refl
-listed-out S paging.Listed = answer-out (S .«announce_source_discovery») says.SourceDiscovered says.Nothing
+listed-out S paging.Listed = cond-map as-was (S .«announce_source_discovery») says.SourceDiscovered says.Nothing
 listed-out S paging.PagesFull = refl
 
 if-accepted-out : (a : Checked) (go stay : Outcome) → old.if-accepted (arrivals.as-was a) (out go) (out stay) ≡ out (if-accepted a go stay)
@@ -241,7 +212,7 @@ module _ (S : Settings) (now : ℕ) where
       let r = listen-all (d .address ∷ []) (s .listened) in
       let t = with-listened (r .0) s in
       rw (release-out (dmx now d ∷ []) (with-waiting (waiting.cleared (d .universe) (s .waiting) .0) s), stored-out d t, heard-out (r .1) (stored S now d t) s)
-      (cond-out (eqb (d .address) 0) _ _)
+      (cond-map out (eqb (d .address) 0) _ _)
 
   data-arrival-out : (d : DataPacket) (s : State) → Kept s → old.data-arrival S now d s ≡ out (data-arrival S now d s)
   unfolding old.data-arrival data-arrival
@@ -260,9 +231,9 @@ module _ (S : Settings) (now : ℕ) where
   packet-out : (p : Packet) (s : State) → Kept s → old.packet-step S now p s ≡ out (packet-step S now p s)
   unfolding old.packet-step packet-step old.data-step data-step old.sync-step sync-step old.discovery-step discovery-step
   packet-out (data-packet d) s k =
-      rw (data-arrival-out d s k, answer-out (S .«announce_stream_termination») (says.UniverseTerminated (d .cid) (d .universe)) says.Nothing)
+      rw (data-arrival-out d s k, cond-map as-was (S .«announce_stream_termination») (says.UniverseTerminated (d .cid) (d .universe)) says.Nothing)
       (in-turn-out (d .preview && not (S .«process_preview_data»)) (d .terminated) (listens (d .universe) (s .listened)) _ _ _ _)
-  packet-out (sync-packet y) s k = rw (sync-arrival-out y s k) (cond-out (listens (y .address) (s .listened)) _ _)
+  packet-out (sync-packet y) s k = rw (sync-arrival-out y s k) (cond-map out (listens (y .address) (s .listened)) _ _)
   packet-out (discovery-packet a) s k =
       let r = discovery.arrived now a (s .discovered) in
       ap (λ (a : was.StepAnswer). old.outcome (with-discovered (r .0) s) a) (listed-out S (r .1))

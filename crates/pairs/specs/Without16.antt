@@ -8,7 +8,7 @@ use lib.Dec.{leb}
 use lib.ListN.{length}
 use lib.IntN.{ℤ}
 use borrow.Author.Tests.{lt-leb, le-leb}
-use Rattle.laws.specs.Cases.{split, found, clash}
+use Rattle.laws.specs.Cases.{split, found, clash, cond-map}
 use Rattle.laws.specs.Table.{keep, find, find-keep, find-key}
 use Rattle.rules.specs.declared.Cid.{Cid}
 use Rattle.rules.specs.Cid.{before, cid-order}
@@ -99,13 +99,10 @@ module _ (limit : SourceLimit) (p : Pair) where
       (λ l. let h : has (t .pairs) (p .cid) ≡ true = cc in rw (l, h))
       (λ l. rw l (split (reached limit (length (t .sources))) (λ r. rw r) (λ r. rw r)))
 
-  full-each : (t : Table) → cond (full p t) (some was.PairsFull) none ≡ each (cond (full p t) (some PairsFull) none)
-  full-each t = split (full p t) (λ f. rw f) (λ f. rw f)
-
   stop-each : (t : Table) → GoodTable t → old.stop limit p t ≡ each (stop limit p t)
   unfolding old.stop stop
   stop-each t g =
-      rw (source-each t g, full-each t, sequence-each (p .sequence) (pairAt (keyOf p) (t .pairs)), first-each (cond (full p t) (some PairsFull) none) (sequence-stop (p .sequence) (pairAt (keyOf p) (t .pairs))))
+      rw (source-each t g, cond-map each (full p t) (some PairsFull) none, sequence-each (p .sequence) (pairAt (keyOf p) (t .pairs)), first-each (cond (full p t) (some PairsFull) none) (sequence-stop (p .sequence) (pairAt (keyOf p) (t .pairs))))
       (first-each (source-stop limit (p .cid) t) _)
 
   admit-each : (t : Table) → GoodTable t → old.admit limit p t ≡ (admit limit p t .0, as-was (admit limit p t .1))
