@@ -76,8 +76,9 @@ mergeOf n = cond (eqb n 0) DiscardLowestPriorityThenPrevious HtpDmxMerge
 abbrev pub limitOf : ℕ → SourceLimit
 limitOf n = cond (eqb n 0) Unlimited (AtMost n)
 
+-- the expiry: as it is
 abbrev pub settingsOf : Choices → Settings
-settingsOf c = settings (c .«process_preview_data») (c .«announce_source_discovery») (c .«announce_stream_termination») (c .«announce_timeout») (mergeOf (c .merge)) (limitOf (c .«source_limit»))
+settingsOf c = settings (c .«process_preview_data») (c .«announce_source_discovery») (c .«announce_stream_termination») (c .«announce_timeout») (mergeOf (c .merge)) (limitOf (c .«source_limit»)) (c .«discovery_expiry»)
 
 -- ── the packets ──
 abbrev pub packetIn : Data → List ℕ → DataPacket

@@ -33,8 +33,8 @@ pub there-and-back : (r : Receiver) → receiverOf (headerOf r) ≡ r
 there-and-back r = refl
 
 pub settings-are : (c : Choices) (m : MergeChoice) (l : SourceLimit) → m ≡ mergeOf (c .merge) → l ≡ limitOf (c .«source_limit»)
-    → settings (c .«process_preview_data») (c .«announce_source_discovery») (c .«announce_stream_termination») (c .«announce_timeout») m l ≡ settingsOf c
-settings-are c m l e f = λ i. settings (c .«process_preview_data») (c .«announce_source_discovery») (c .«announce_stream_termination») (c .«announce_timeout») (e i) (f i)
+    → settings (c .«process_preview_data») (c .«announce_source_discovery») (c .«announce_stream_termination») (c .«announce_timeout») m l (c .«discovery_expiry») ≡ settingsOf c
+settings-are c m l e f = λ i. settings (c .«process_preview_data») (c .«announce_source_discovery») (c .«announce_stream_termination») (c .«announce_timeout») (e i) (f i) (c .«discovery_expiry»)
 
 pub reply-is : (h : Handled) (x : Header) (a : Answer) → x ≡ headerOf (h .receiver) → a ≡ toldOf (h .answer) → record { header = x; answer = a } ≡ replyOf h
 reply-is h x a e f = λ i. record { header = e i; answer = f i }

@@ -2,7 +2,7 @@
 ghost use mathlib.Core.Path.{_≡_};
 ghost use mathlib.Core.List.{List};
 ghost use Prim.Native.Nat.{ℕ};
-ghost use Rattle.settings.specs.Settings.{limited, numberOf};
+ghost use Rattle.settings.specs.Settings.{limited, expiring, numberOf};
 ghost use Rattle.waiting.specs.Records.{bit};
 ghost use Rattle.lengths.specs.Space.{bytes};
 ghost use Rattle.packets.specs.View.{packetOf, syncOf};
@@ -30,6 +30,7 @@ use sequences::SequenceNumbering;
 use settings::MergeChoice;
 use settings::Settings;
 use settings::SourceLimit;
+use settings::is_expiry_in_range;
 use steps::Handled;
 use waiting_calls::Waiting;
 
@@ -51,7 +52,7 @@ pub struct Header {
     pub sync_tidy: bool,
 }
 
-// The settings. Merge is 0 for the choice by priority, any other number for the highest values; a limit of 0 is none.
+// The settings. Merge is 0 for the choice by priority, any other number for the highest values; a limit of 0 is none; the discovery expiry is taken as it is.
 #[repr(C)]
 pub struct Choices {
     pub process_preview_data: bool,
@@ -60,6 +61,7 @@ pub struct Choices {
     pub announce_timeout: bool,
     pub merge: u8,
     pub source_limit: u16,
+    pub discovery_expiry: u32,
 }
 
 // A data packet but for its values. A CID is two words, most significant first.
@@ -112,9 +114,9 @@ pub struct Reply {
     pub answer: Answer,
 }
 
-// What setting the limit leaves and answers.
+// What a setter that can refuse leaves and answers.
 #[repr(C)]
-pub struct Limited {
+pub struct Adjusted {
     pub choices: Choices,
     pub number: u8,
 }
@@ -199,6 +201,7 @@ pub fn settings_of(c: Choices) -> Settings
         announce_timeout: c.announce_timeout,
         merge: merge,
         source_limit: limit,
+        discovery_expiry: c.discovery_expiry,
     }
 }
 
@@ -415,21 +418,41 @@ pub fn cleared(a: ClearAnswer) -> Answer
 }
 
 // A limit of 0 gives 14 and changes nothing.
-pub fn with_source_limit(choices: Choices, limit: u16) -> Limited
+pub fn with_source_limit(choices: Choices, limit: u16) -> Adjusted
     ensures set { λ r. ⌜ (settingsOf (r .choices) ≡ limited limit (settingsOf choices) .settings)
         × (r .number ≡ numberOf (limited limit (settingsOf choices) .answer)) ⌝ }
     ensures left { λ r. ⌜ (r .number ≡ 14 → r .choices ≡ choices) ⌝ }
 {
     if limit == 0 {
-        return Limited {
+        return Adjusted {
             choices: choices,
             number: 14,
         };
     }
     let mut c = choices;
     c.source_limit = limit;
-    Limited {
+    Adjusted {
         choices: c,
         number: 0,
+    }
+}
+
+// An expiry out of range gives 20 and changes nothing.
+pub fn with_discovery_expiry(choices: Choices, expiry: u32) -> Adjusted
+    ensures set { λ r. ⌜ (settingsOf (r .choices) ≡ expiring expiry (settingsOf choices) .settings)
+        × (r .number ≡ numberOf (expiring expiry (settingsOf choices) .answer)) ⌝ }
+    ensures left { λ r. ⌜ (r .number ≡ 20 → r .choices ≡ choices) ⌝ }
+{
+    if is_expiry_in_range(expiry) {
+        let mut c = choices;
+        c.discovery_expiry = expiry;
+        return Adjusted {
+            choices: c,
+            number: 0,
+        };
+    }
+    Adjusted {
+        choices,
+        number: 20,
     }
 }

@@ -175,7 +175,7 @@ cut u s = record { cid = s .cid; name = s .name; last-page = s .last-page; readi
 unfoldable pub ended : Cid → ℕ → Discovered → Discovered
 ended c u d = record { partial = d .partial; listed = map (λ s. cond (same (s .cid) c) (cut u s) s) (d .listed) }
 
--- ── "The discovery sweep (`remove_expired_sources`) drops entries of age 2,500 or more": the time is a parameter ──
+-- ── the discovery sweep (`remove_expired_sources`): "drops entries of age" at or over the time, which document 02, F-3, takes from the settings ──
 abbrev pub current : ℕ → ℕ → Source → Bool
 current time now s = not (aged time now (s .reading))
 

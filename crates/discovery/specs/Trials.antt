@@ -62,7 +62,7 @@ pub listed-again : map (λ s. s .cid .lo) (listings (1 ∷ 2 ∷ 1 ∷ []) nothi
 unfolding listings arrived page-count taken noted begun noting drop-source relisted lookup keep any
 listed-again = refl
 
--- ── "drops entries of age 2,500 or more" ──
+-- ── the sweep by a setting of 2,500 (what document 01 had), of 20,000 (fresh) and of 60,000 ──
 -- one source, partial and listed, of the reading 1,000
 abbrev pub of-1000 : Source
 of-1000 = record { cid = record { hi = 0; lo = 1 }; name = []; last-page = 0; reading = 1000; pages = [] }
@@ -74,6 +74,22 @@ age-2500-dropped = refl
 pub age-2499-kept : swept 2500 3499 (record { partial = of-1000 ∷ []; listed = of-1000 ∷ [] }) ≡ record { partial = of-1000 ∷ []; listed = of-1000 ∷ [] }
 unfolding swept keep
 age-2499-kept = refl
+
+pub age-20000-dropped : swept 20000 21000 (record { partial = of-1000 ∷ []; listed = of-1000 ∷ [] }) ≡ nothing-known
+unfolding swept keep
+age-20000-dropped = refl
+
+pub age-19999-kept : swept 20000 20999 (record { partial = of-1000 ∷ []; listed = of-1000 ∷ [] }) ≡ record { partial = of-1000 ∷ []; listed = of-1000 ∷ [] }
+unfolding swept keep
+age-19999-kept = refl
+
+pub age-60000-dropped : swept 60000 61000 (record { partial = of-1000 ∷ []; listed = of-1000 ∷ [] }) ≡ nothing-known
+unfolding swept keep
+age-60000-dropped = refl
+
+pub age-59999-kept : swept 60000 60999 (record { partial = of-1000 ∷ []; listed = of-1000 ∷ [] }) ≡ record { partial = of-1000 ∷ []; listed = of-1000 ∷ [] }
+unfolding swept keep
+age-59999-kept = refl
 
 -- ── "64 pages on arrival | 13": "13 first", and all is left ──
 pub full-at-64 : (now : ℕ) (a : Announcement) (d : Discovered) → pages-held d ≡ 64 → arrived now a d ≡ (d, PagesFull)

@@ -8,7 +8,6 @@ use Prim.Native.Nat.{ℕ}
 use lib.Dec.{ltb}
 use Rattle.laws.specs.Table.{remove}
 use Rattle.rules.specs.Universe.{legal}
-use Rattle.rules.specs.Age.{data-loss}
 use Rattle.settings.specs.declared.Settings.{Settings}
 use Rattle.pairs.specs.Table as pairs
 use Rattle.merge.specs.Merge.{Dmx}
@@ -36,11 +35,11 @@ polled-by (s, some k) = (s, polling.UniverseTimeout (k .cid) (k .universe))
 unfoldable pub poll-call : ℕ → Settings → ℕ → State → State × PollAnswer
 poll-call room S now s = elim (short waiting-bytes room) [ some n ↦ (s, polling.TooShort n) | none ↦ polled-by (poll S now s) ]
 
--- "The discovery sweep (`remove_expired_sources`) drops entries of age 2,500 or more and runs only when called."
-unfoldable pub expiry-call : ℕ → ℕ → State → State × ExpiryAnswer
-expiry-call room now s = elim (short page-bytes room) [
+-- "The discovery sweep (`remove_expired_sources`) .. runs only when called." Document 02, F-3: the age at which an entry goes is the `discovery_expiry` of the call's settings, whatever it is.
+unfoldable pub expiry-call : ℕ → Settings → ℕ → State → State × ExpiryAnswer
+expiry-call room S now s = elim (short page-bytes room) [
   | some n ↦ (s, expiry.TooShort n)
-  | none ↦ (with-discovered (discovery.swept data-loss now (s .discovered)) s, expiry.Swept)
+  | none ↦ (with-discovered (discovery.swept (S .«discovery_expiry») now (s .discovered)) s, expiry.Swept)
 ]
 
 -- `listen_universes`
@@ -86,7 +85,7 @@ reset-call s = reset-discovery-call (reset-pairs-call s)
 pub data Call : Type 0 where
   on-packet : Space → Settings → ℕ → Packet → Call
   on-poll : ℕ → Settings → ℕ → Call
-  on-expiry : ℕ → ℕ → Call
+  on-expiry : ℕ → Settings → ℕ → Call
   on-listen : List ℕ → Call
   on-mute : ℕ → Call
   on-ask : ℕ → Call
@@ -99,7 +98,7 @@ pub data Call : Type 0 where
 unfoldable pub call : Call → State → State
 call (on-packet m S now p) s = step m S now p s .state
 call (on-poll room S now) s = poll-call room S now s .0
-call (on-expiry room now) s = expiry-call room now s .0
+call (on-expiry room S now) s = expiry-call room S now s .0
 call (on-listen us) s = listen-call us s .0
 call (on-mute u) s = mute-call u s .0
 call (on-ask u) s = s
@@ -133,7 +132,7 @@ pub data Reply (A : Type 0) : Type 0 where
 unfoldable pub reply : Call → State → Reply StepAnswer
 reply (on-packet m S now p) s = of-packet (step m S now p s .answer) (step m S now p s .released)
 reply (on-poll room S now) s = of-poll (poll-call room S now s .1)
-reply (on-expiry room now) s = of-expiry (expiry-call room now s .1)
+reply (on-expiry room S now) s = of-expiry (expiry-call room S now s .1)
 reply (on-listen us) s = of-listen (listen-call us s .1)
 reply (on-mute u) s = of-mute (mute-call u s .1)
 reply (on-ask u) s = of-ask (listens u (s .listened))

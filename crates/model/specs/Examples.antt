@@ -32,7 +32,7 @@ use Rattle.model.specs.Step.{Outcome, Space, illegal, joined-by, listen-
 use Rattle.model.specs.Calls.{listen-call, muted}
 
 -- enough of everything
-abbrev enough : Space
+abbrev pub enough : Space
 enough = record { output = 35072; waiting-values = 32832; page-universes = 65536 }
 
 -- a fresh receiver that was told to listen

@@ -15,7 +15,6 @@ use Rattle.laws.specs.Cases.{split, found, clash, missing}
 use Rattle.laws.specs.Order.{ℕ-order, keyed, tri}
 use Rattle.laws.specs.Table.{any, find, store, remove, Ascending, find-store-other, ascending-store, ascending-remove, length-remove, find-remove-other, find-remove-same}
 use Rattle.rules.specs.Universe.{legal}
-use Rattle.rules.specs.Age.{data-loss}
 use Rattle.settings.specs.declared.Settings.{Settings}
 use Rattle.pairs.specs.declared.Pair.{Pair}
 use Rattle.pairs.specs.declared.Checked.{Checked}
@@ -317,11 +316,11 @@ call-kept (on-poll room S now) s k =
     found (short waiting-bytes room)
     (λ e. let q : poll-call room S now s .0 ≡ poll S now s .0 = unfold poll-call in (rw (e, poll-call) (polled-by-state (poll S now s))) in subst Kept (sym q) (poll-kept S now s k))
     (λ n e. let q : poll-call room S now s .0 ≡ s = unfold poll-call in cc in subst Kept (sym q) k)
-call-kept (on-expiry room now) s k =
+call-kept (on-expiry room S now) s k =
     found (short page-bytes room)
-    (λ e. let q : expiry-call room now s .0 ≡ with-discovered (discovery.swept data-loss now (s .discovered)) s = unfold expiry-call in cc in
-    subst Kept (sym q) (discovered-anew s k _ (discovery-laws.ordered-swept data-loss now (s .discovered) (k .kept-discovered))))
-    (λ n e. let q : expiry-call room now s .0 ≡ s = unfold expiry-call in cc in subst Kept (sym q) k)
+    (λ e. let q : expiry-call room S now s .0 ≡ with-discovered (discovery.swept (S .«discovery_expiry») now (s .discovered)) s = unfold expiry-call in cc in
+    subst Kept (sym q) (discovered-anew s k _ (discovery-laws.ordered-swept (S .«discovery_expiry») now (s .discovered) (k .kept-discovered))))
+    (λ n e. let q : expiry-call room S now s .0 ≡ s = unfold expiry-call in cc in subst Kept (sym q) k)
 call-kept (on-listen us) s k = unfold listen-call in listened-anew s k _ (listen-heard us (s .listened) (k .kept-listened))
 call-kept (on-mute u) s k = mute-kept u s k
 call-kept (on-ask u) s k = k

@@ -4,6 +4,7 @@ pub mod State
 pub mod Step
 pub mod Calls
 pub mod Halves
+pub mod Expiry
 pub mod Examples
 pub mod ListenExamples
 pub mod ReplyExamples

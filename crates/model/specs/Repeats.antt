@@ -37,7 +37,7 @@ Sync-again q (discovery-packet a) = Unit {0}
 abbrev pub Call-again : (Pair → Packet → Type 0) → Pair → Call → Type 0
 Call-again Again q (on-packet m S now p) = (pairs.live now q ≡ true) × Again q p
 Call-again Again q (on-poll room S now) = pairs.live now q ≡ true
-Call-again Again q (on-expiry room now) = Unit {0}
+Call-again Again q (on-expiry room S now) = Unit {0}
 Call-again Again q (on-listen us) = Unit {0}
 Call-again Again q (on-mute u) = Unit {0}
 Call-again Again q (on-ask u) = Unit {0}
@@ -146,7 +146,7 @@ module _ {Again : Pair → Packet → Type 0} {q : Pair} {At : pairs.Table → p
       found (short waiting-bytes room)
       (λ e. rw (e, call, poll-call, polled-by-state (poll S now s)) (poll-stays S now l s k h))
       (λ n e. rw (e, call, poll-call) h)
-  call-stays (on-expiry room now) s k a h = found (short page-bytes room) (λ e. rw (e, call, expiry-call) h) (λ n e. rw (e, call, expiry-call) h)
+  call-stays (on-expiry room S now) s k a h = found (short page-bytes room) (λ e. rw (e, call, expiry-call) h) (λ n e. rw (e, call, expiry-call) h)
   call-stays (on-listen us) s k a h = h
   call-stays (on-mute u) s k a h = h
   call-stays (on-ask u) s k a h = h

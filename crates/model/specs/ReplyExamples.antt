@@ -23,12 +23,10 @@ use Rattle.model.specs.declared.ClearAnswer.the-variants as clearing
 use Rattle.model.specs.Packet.{DataPacket, data-packet, over, too-long}
 use Rattle.model.specs.State.{State, fresh}
 use Rattle.model.specs.Step.{Space, illegal, joined-by, listen-all, too-short, poll-waiting, poll-sync, poll, if-accepted, release, unsynchronised, accepted, data-arrival, data-step, packet-step, polled, measured, step}
+use Rattle.model.specs.Examples.{enough}
 use Rattle.model.specs.Calls.{poll-call, polled-by, expiry-call, listen-call, muted, mute-call, clear-call, clear-all-call, reset-pairs-call, reset-discovery-call, reset-call}
 use Rattle.model.specs.Calls.{on-packet, on-poll, on-expiry, on-listen, on-mute, on-ask, on-clear, on-clear-all, on-reset-pairs, on-reset-discovery, on-reset, call}
 use Rattle.model.specs.Calls.{of-packet, of-poll, of-expiry, of-listen, of-mute, of-ask, of-clear, of-clear-all, of-reset-pairs, of-reset-discovery, of-reset, reply, replies}
-
-abbrev enough : Space
-enough = record { output = 35072; waiting-values = 32832; page-universes = 65536 }
 
 abbrev desk : Cid
 desk = record { hi = 0; lo = 1 }
@@ -53,7 +51,7 @@ replied :
     ∷ on-packet enough settings.fresh 5 (data-packet packet)
     ∷ on-packet enough settings.fresh 6 (data-packet packet)
     ∷ on-poll 32832 settings.fresh 6
-    ∷ on-expiry 65536 6
+    ∷ on-expiry 65536 settings.fresh 6
     ∷ on-ask 1
     ∷ on-clear 32832 1
     ∷ on-clear 32831 1

@@ -1,5 +1,5 @@
 -- Document 01, 'The receiver', the step and what it answers as they were before document 02's F-11: the definition with the branch that gave 16,
--- word for word, but that `pairs.Key` is `Key`. The pair tables' part is pairs/specs/With16.antt. Repeated is what gives or takes an answer of a step, and
+-- word for word, but that `pairs.Key` is `Key` and that the discovery sweep takes the settings (F-3). The pair tables' part is pairs/specs/With16.antt. Repeated is what gives or takes an answer of a step, and
 -- what rests on `step`; the rest is that of Step.antt and Calls.antt. `reply` and `replies` came with F-11 and are as in Calls.antt.
 -- Used by nothing but the theorem that it replied the same, `replies-as-was` in Without16.antt.
 -- Assumes nothing.
@@ -197,7 +197,7 @@ step m S now p s = elim (too-short m) [
 unfoldable pub call : Call → State → State
 call (on-packet m S now p) s = step m S now p s .state
 call (on-poll room S now) s = poll-call room S now s .0
-call (on-expiry room now) s = expiry-call room now s .0
+call (on-expiry room S now) s = expiry-call room S now s .0
 call (on-listen us) s = listen-call us s .0
 call (on-mute u) s = mute-call u s .0
 call (on-ask u) s = s
@@ -216,7 +216,7 @@ run (c ∷ cs) s = run cs (call c s)
 unfoldable pub reply : Call → State → Reply StepAnswer
 reply (on-packet m S now p) s = of-packet (step m S now p s .answer) (step m S now p s .released)
 reply (on-poll room S now) s = of-poll (poll-call room S now s .1)
-reply (on-expiry room now) s = of-expiry (expiry-call room now s .1)
+reply (on-expiry room S now) s = of-expiry (expiry-call room S now s .1)
 reply (on-listen us) s = of-listen (listen-call us s .1)
 reply (on-mute u) s = of-mute (mute-call u s .1)
 reply (on-ask u) s = of-ask (listens u (s .listened))

@@ -260,7 +260,7 @@ call-as-was : (c : Call) (s : State) → Kept s → (old.reply c s ≡ reply-as-
 unfolding old.reply reply old.call call
 call-as-was (on-packet m S now p) s k = let e = step-out m S now p s k in (ap (λ (o : old.Outcome). of-packet (o .answer) (o .released)) e, ap (λ (o : old.Outcome). o .state) e)
 call-as-was (on-poll room S now) s k = (refl, refl)
-call-as-was (on-expiry room now) s k = (refl, refl)
+call-as-was (on-expiry room S now) s k = (refl, refl)
 call-as-was (on-listen us) s k = (refl, refl)
 call-as-was (on-mute u) s k = (refl, refl)
 call-as-was (on-ask u) s k = (refl, refl)

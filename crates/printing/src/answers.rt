@@ -4,7 +4,7 @@ ghost use mathlib.Core.List.{[], _∷_};
 ghost use lib.ListN.{take};
 ghost use Rattle.rules.specs.Answer.{number, integer, source, name};
 ghost use Rattle.model.specs.Answer.{pollNumber, pollValues, expiryNumber, expiryValues, listenNumber, listenValues, muteNumber, muteValues, clearNumber, clearValues};
-ghost use Rattle.settings.specs.Settings.{numberOf};
+ghost use Rattle.settings.specs.Settings.{numberOf, valuesOf};
 ghost use Rattle.printing.specs.Text.{Ready, Tells};
 ghost use Rattle.printing.specs.Answers.{answerLine, flagLine, releaseLine, stepLine};
 use crate::print::put;
@@ -21,7 +21,7 @@ use model::MuteAnswer;
 use model::PollAnswer;
 use model::StepAnswer;
 use rules::Cid;
-use settings::LimitAnswer;
+use settings::SettingAnswer;
 
 // The first n elements, or all.
 pub fn front(bytes: &[u8], n: usize) -> &[u8]
@@ -193,12 +193,13 @@ pub fn put_clear(out: &mut [u8], at: usize, answer: ClearAnswer) -> usize
     }
 }
 
-pub fn put_limit(out: &mut [u8], at: usize, answer: LimitAnswer) -> usize
+pub fn put_setting(out: &mut [u8], at: usize, answer: SettingAnswer) -> usize
     requires { ⌜ Ready at (now out) ⌝ }
-    ensures { λ r. ⌜ Tells (answerLine (numberOf answer) []) (now (out .entry)) at (now (out .exit)) r ⌝ }
+    ensures { λ r. ⌜ Tells (answerLine (numberOf answer) (valuesOf answer)) (now (out .entry)) at (now (out .exit)) r ⌝ }
 {
     match answer {
-        LimitAnswer::Set => put_number(out, at, 0),
-        LimitAnswer::Zero => put_number(out, at, 14),
+        SettingAnswer::Set => put_number(out, at, 0),
+        SettingAnswer::LimitZero => put_number(out, at, 14),
+        SettingAnswer::ExpiryOutOfRange => put_number(out, at, 20),
     }
 }

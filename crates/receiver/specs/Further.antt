@@ -10,7 +10,6 @@ use native.Mathlib.Omega.{arith}
 use lib.ListN.{length, length-take}
 use Rattle.laws.specs.Cases.{split, clash}
 use Rattle.rules.specs.declared.Cid.{Cid}
-use Rattle.rules.specs.Age.{data-loss}
 use Rattle.rules.specs.Universe.{legal}
 use Rattle.settings.specs.declared.Settings.{Settings}
 use Rattle.pair_rows.specs.View.{Rows}
@@ -132,19 +131,19 @@ module _ (S : Settings) (now : ℕ) (r : Receiver) (m : Memory) where
     }
 
 -- ── the discovery sweep ──
-module _ (now : ℕ) (r : Receiver) (m : Memory) where
-  pub does-expiry-short : (n : ℕ) → short page-bytes (bytes (m .universes)) ≡ some n → Does (expiry-call (bytes (m .universes)) now) expiryNumber r m r m (expiry.TooShort n)
+module _ (S : Settings) (now : ℕ) (r : Receiver) (m : Memory) where
+  pub does-expiry-short : (n : ℕ) → short page-bytes (bytes (m .universes)) ≡ some n → Does (expiry-call (bytes (m .universes)) S now) expiryNumber r m r m (expiry.TooShort n)
   unfolding expiry-call
   does-expiry-short n e = record { outcome-is = rw (e, expiry-call); kept = λ k. k; all-left = λ z. (refl, refl); lent-waiting = lent-none (m .rows) (m .store); lent-pages = pool.lent-none (m .universes) }
 
   expiry-long : short page-bytes (bytes (m .universes)) ≡ none
-      → expiry-call (bytes (m .universes)) now (stateOf r m) ≡ (with-discovered (swept data-loss now (stateOf r m .discovered)) (stateOf r m), expiry.Swept)
+      → expiry-call (bytes (m .universes)) S now (stateOf r m) ≡ (with-discovered (swept (S .«discovery_expiry») now (stateOf r m .discovered)) (stateOf r m), expiry.Swept)
   unfolding expiry-call
   expiry-long e = rw (e, expiry-call)
 
   pub does-expiry : (d : Discovery) (sources names pages : Rows) (universes : List ℕ) → short page-bytes (bytes (m .universes)) ≡ none
-      → Holds (m .universes) d sources names pages universes (swept data-loss now (stateOf r m .discovered))
-      → Does (expiry-call (bytes (m .universes)) now) expiryNumber r m (record { sequences = r .sequences; waiting = r .waiting; listened = r .listened; discovery = d })
+      → Holds (m .universes) d sources names pages universes (swept (S .«discovery_expiry») now (stateOf r m .discovered))
+      → Does (expiry-call (bytes (m .universes)) S now) expiryNumber r m (record { sequences = r .sequences; waiting = r .waiting; listened = r .listened; discovery = d })
       (with-discovery-rows sources names pages universes m) expiry.Swept
   does-expiry d sources names pages universes e h = record {
     outcome-is = expiry-long e ∙ (λ i. (with-discovered (sym (h .seen) i) (stateOf r m), expiry.Swept));

@@ -29,7 +29,6 @@ use model::PollAnswer;
 use pair_rows::PairRows;
 use pair_rows::SourceRows;
 use pairs::SweepAnswer;
-use rules::E131_NETWORK_DATA_LOSS_TIMEOUT;
 use sequences::SequenceNumbering;
 use settings::Settings;
 use timeouts::is_idle;
@@ -176,19 +175,20 @@ impl Receiver {
         }
     }
 
-    // The discovery sweep: sources of age 2,500 or more go, partial and listed.
+    // The discovery sweep: sources as old as the settings' discovery expiry, or older, go, partial and listed.
     pub fn remove_expired_sources(
         self,
         sources: &mut HeadRows,
         names: &mut NameRows,
         pages: &mut PageRows,
         universes: &mut [u16],
+        settings: Settings,
         reading: u64,
     ) -> AfterExpiry
         requires { ⌜ KeptDiscovery (self .discovery) (now sources) (now names) (now pages) (now universes) ⌝ }
         ensures { λ r. ⌜ ((rest : Memory) →
             let m = discovery-lent sources names pages universes (untouched rest) in
-            Does (expiry-call (bytes (now (universes .entry))) reading) expiryNumber self (m .entry) (r .receiver) (m .exit) (r .answer)) ⌝ }
+            Does (expiry-call (bytes (now (universes .entry))) settings reading) expiryNumber self (m .entry) (r .receiver) (m .exit) (r .answer)) ⌝ }
     {
         if let Measured::TooShort(needed) = test_page_store(&*universes) {
             return AfterExpiry {
@@ -200,14 +200,8 @@ impl Receiver {
         let waiting = self.waiting;
         let listened = self.listened;
         let d = self.discovery;
-        let discovery = d.remove_expired_sources(
-            sources,
-            names,
-            pages,
-            universes,
-            E131_NETWORK_DATA_LOSS_TIMEOUT,
-            reading,
-        );
+        let time = settings.discovery_expiry as u64;
+        let discovery = d.remove_expired_sources(sources, names, pages, universes, time, reading);
         let receiver = Receiver {
             sequences,
             waiting,

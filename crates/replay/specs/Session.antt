@@ -7,6 +7,7 @@ use Prim.Native.Nat.{ℕ, _≤_}
 use lib.ListN.{length, take}
 use Rattle.rules.specs.Answer.{Value}
 use Rattle.settings.specs.declared.Settings.{Settings}
+use Rattle.settings.specs.declared.Adjusted.{Adjusted}
 use Rattle.settings.specs.Settings as setting
 use Rattle.waiting.specs.Records.{records, over}
 use Rattle.waiting.specs.Waiting.{store-length}
@@ -54,8 +55,9 @@ begun = outcome setting.fresh model.fresh (answerLine 0 [])
 abbrev pub set-to : Settings → State → Outcome
 set-to S s = outcome S s (answerLine 0 [])
 
-abbrev pub limited-to : ℕ → Settings → State → Outcome
-limited-to n S s = outcome (setting.limited n S .settings) s (answerLine (setting.numberOf (setting.limited n S .answer)) [])
+-- a setter that can refuse
+abbrev pub answered : Adjusted → State → Outcome
+answered a s = outcome (a .settings) s (answerLine (setting.numberOf (a .answer)) (setting.valuesOf (a .answer)))
 
 -- a call that answers
 abbrev pub called : {A : Type 0} → (State → State × A) → (A → ℕ) → (A → List Value) → Settings → State → Outcome
@@ -94,7 +96,8 @@ adjusted (sets.AnnounceTermination on) S s = set-to (setting.withTermination on 
 adjusted (sets.AnnounceTimeout on) S s = set-to (setting.withTimeout on S) s
 adjusted (sets.Merge choice) S s = set-to (setting.withMerge choice S) s
 adjusted sets.NoLimit S s = set-to (setting.withoutLimit S) s
-adjusted (sets.Limit n) S s = limited-to n S s
+adjusted (sets.Limit n) S s = answered (setting.limited n S) s
+adjusted (sets.Expiry n) S s = answered (setting.expiring n S) s
 
 -- each command, with the bytes and the numbers that its line put into lent memory
 abbrev pub carried : Memory → List ℕ → List ℕ → List ℕ → Command → Settings → State → Outcome
@@ -105,7 +108,7 @@ carried m output bs us (says.Listen n) S s = called (listen-call (take n us)) li
 carried m output bs us (says.Mute u) S s = called (mute-call u) muteNumber muteValues S s
 carried m output bs us (says.Listening u) S s = asked u S s
 carried m output bs us (says.Poll now) S s = called (poll-call (length (m .store)) S now) pollNumber pollValues S s
-carried m output bs us (says.Sweep now) S s = called (expiry-call (bytes (m .universes)) now) expiryNumber expiryValues S s
+carried m output bs us (says.Sweep now) S s = called (expiry-call (bytes (m .universes)) S now) expiryNumber expiryValues S s
 carried m output bs us (says.Clear u) S s = called (clear-call (length (m .store)) u) clearNumber clearValues S s
 carried m output bs us says.ClearAll S s = changed clear-all-call S s
 carried m output bs us (says.Reset x) S s = changed (resetting x) S s

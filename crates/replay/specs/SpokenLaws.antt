@@ -44,7 +44,7 @@ use Rattle.script.specs.declared.parse.Word.the-variants as word
 use Rattle.laws.specs.Ascii.{ascii}
 use Rattle.script.specs.Fields.{eql, ending, numberOf, smallOf, octetOf, flagOf, byteStringOf, listOf}
 use Rattle.script.specs.Script
-use Rattle.script.specs.Script.{Reading, Reads, plain, firstOf, restOf, pastFive, loneOf, wordOf, flagged, aimed, timed, mergeOf, limit-number, limitOf, stampOf, numbersOf, data-values, data-numbers, data-stamp, dataOf, sync-sequence, sync-address, sync-stamp, syncOf, page-universes, page-name, page-last, page-number, page-stamp, discoveryOf, listen-list, fieldsOf, lineOf}
+use Rattle.script.specs.Script.{Reading, Reads, plain, firstOf, restOf, pastFive, loneOf, wordOf, flagged, aimed, timed, mergeOf, limit-number, limitOf, expiry-said, stampOf, numbersOf, data-values, data-numbers, data-stamp, dataOf, sync-sequence, sync-address, sync-stamp, syncOf, page-universes, page-name, page-last, page-number, page-stamp, discoveryOf, listen-list, fieldsOf, lineOf}
 use Rattle.script.specs.Lines.{silent}
 use Rattle.replay.specs.Session.{Outcome, outcome, called, stepped, refused, carried, spoken}
 
@@ -97,6 +97,10 @@ time-counts reading.Sweep number.Bad = tt
 number-counts : (x : Small) → Counts (plain (limit-number x))
 number-counts (small.Of n) = tt
 number-counts small.Bad = tt
+
+expiry-counts : (x : Number) → Counts (plain (expiry-said x))
+expiry-counts (number.Of n) = tt
+expiry-counts number.Bad = tt
 
 lone-counts : (s : List ℕ) → Counts (plain (loneOf s))
 lone-counts s =
@@ -165,6 +169,7 @@ fields-counts room places word.Listen s = listen-counts (listOf places s)
 fields-counts room places word.Merge s =
     split (eql s (ascii "priority")) (λ e. rw e tt) (λ e. rw e (split (eql s (ascii "highest")) (λ f. rw f tt) (λ f. rw f tt)))
 fields-counts room places word.Limit s = split (eql s (ascii "none")) (λ e. rw e tt) (λ e. rw e (number-counts (smallOf s)))
+fields-counts room places word.Expiry s = expiry-counts (numberOf 4294967295 s)
 fields-counts room places (word.Setting w) s = set-counts w (flagOf s)
 fields-counts room places (word.Universe w) s = aim-counts w (smallOf s)
 fields-counts room places (word.Reading w) s = time-counts w (numberOf Script.most s)

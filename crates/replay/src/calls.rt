@@ -18,7 +18,7 @@ ghost use Rattle.discovery.specs.Discovery.{pool-length};
 ghost use Rattle.receiver.specs.View.{Memory, memory, with-sequence-rows, with-waiting-rows, with-listened-rows, with-discovery-rows, stateOf, spaceIn, Kept, Becomes};
 ghost use Rattle.packets.specs.View.{announcementOf};
 ghost use Rattle.printing.specs.Text.{Ready};
-ghost use Rattle.replay.specs.Session.{begun, set-to, limited-to, called, changed, resetting, asked, stepped, Carries};
+ghost use Rattle.replay.specs.Session.{begun, set-to, answered, called, changed, resetting, asked, stepped, Carries};
 ghost use Rattle.model.specs.Step.{most-listened};
 use crate::dump::front_numbers;
 use discovery_rows::HeadRows;
@@ -34,17 +34,18 @@ use printing::answers::front;
 use printing::answers::put_clear;
 use printing::answers::put_expiry;
 use printing::answers::put_flag;
-use printing::answers::put_limit;
 use printing::answers::put_listen;
 use printing::answers::put_mute;
 use printing::answers::put_number;
 use printing::answers::put_poll;
+use printing::answers::put_setting;
 use printing::answers::put_step;
 use receiver::Receiver;
 use script::parse::DataLine;
 use script::parse::PageLine;
 use script::parse::Reset;
 use script::parse::SyncLine;
+use settings::Adjusted;
 use settings::Settings;
 use waiting_store::EntryRows;
 
@@ -85,17 +86,16 @@ pub fn set(session: Session, settings: Settings, out: &mut [u8]) -> Session
     }
 }
 
-pub fn set_limit(session: Session, limit: u16, out: &mut [u8]) -> Session
+// The settings are set or, where the setter refuses, left.
+pub fn set_answered(session: Session, adjusted: Adjusted, out: &mut [u8]) -> Session
     requires { ⌜ Ready (session .at) (now out) ⌝ }
-    ensures { λ r. ⌜ ((m : Memory) → Carries session m (now (out .entry))
-        (limited-to limit (session .settings) (stateOf (session .receiver) m)) r m (now (out .exit))) ⌝ }
+    ensures { λ r. ⌜ ((m : Memory) → Carries session m (now (out .entry)) (answered adjusted (stateOf (session .receiver) m)) r m
+        (now (out .exit))) ⌝ }
 {
     let receiver = session.receiver;
-    let old = session.settings;
-    let l = old.set_source_limit(limit);
-    let settings = l.settings;
-    let answer = l.answer;
-    let at = put_limit(out, session.at, answer);
+    let settings = adjusted.settings;
+    let answer = adjusted.answer;
+    let at = put_setting(out, session.at, answer);
     Session {
         receiver: receiver,
         settings: settings,
@@ -231,7 +231,7 @@ pub fn sweep(
         (now pages) (now universes)) × Ready (session .at) (now out) ⌝ }
     ensures { λ r. ⌜ ((m : Memory) → Carries session
         (with-discovery-rows (now (sources .entry)) (now (names .entry)) (now (pages .entry)) (now (universes .entry)) m)
-        (now (out .entry)) (called (expiry-call (bytes (now (universes .entry))) reading) expiryNumber expiryValues
+        (now (out .entry)) (called (expiry-call (bytes (now (universes .entry))) (session .settings) reading) expiryNumber expiryValues
         (session .settings) (stateOf (session .receiver) (with-discovery-rows (now (sources .entry)) (now (names .entry))
         (now (pages .entry)) (now (universes .entry)) m))) r
         (with-discovery-rows (now (sources .exit)) (now (names .exit)) (now (pages .exit)) (now (universes .exit)) m)
@@ -239,7 +239,7 @@ pub fn sweep(
 {
     let r = session.receiver;
     let settings = session.settings;
-    let a = r.remove_expired_sources(sources, names, pages, universes, reading);
+    let a = r.remove_expired_sources(sources, names, pages, universes, settings, reading);
     let receiver = a.receiver;
     let answer = a.answer;
     let at = put_expiry(out, session.at, answer);

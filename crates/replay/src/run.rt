@@ -16,7 +16,7 @@ use crate::calls::mute;
 use crate::calls::poll;
 use crate::calls::reset;
 use crate::calls::set;
-use crate::calls::set_limit;
+use crate::calls::set_answered;
 use crate::calls::step_data;
 use crate::calls::step_discovery;
 use crate::calls::step_sync;
@@ -74,7 +74,8 @@ fn adjust(session: Session, setting: Setting, out: &mut [u8]) -> Session
         Setting::AnnounceTimeout(on) => set(session, s.set_announce_timeout(on), out),
         Setting::Merge(choice) => set(session, s.set_merge(choice), out),
         Setting::NoLimit => set(session, s.clear_source_limit(), out),
-        Setting::Limit(n) => set_limit(session, n, out),
+        Setting::Limit(n) => set_answered(session, s.set_source_limit(n), out),
+        Setting::Expiry(n) => set_answered(session, s.set_discovery_expiry(n), out),
     }
 }
 

@@ -76,7 +76,8 @@ settingWord w =
     (cond (eql w (ascii "announce_timeout")) (word.Setting setting.Timeout)
     (cond (eql w (ascii "merge")) word.Merge
     (cond (eql w (ascii "limit")) word.Limit
-    word.Unknown)))))
+    (cond (eql w (ascii "expiry")) word.Expiry
+    word.Unknown))))))
 
 unfoldable pub callWord : List ℕ → Word
 callWord w =
@@ -141,6 +142,14 @@ limit-number small.Bad = says.Error
 
 abbrev pub limitOf : List ℕ → Command
 limitOf s = cond (eql s (ascii "none")) (says.Set sets.NoLimit) (limit-number (smallOf s))
+
+-- "the setter of the discovery expiry, N of 32 bits"
+abbrev pub expiry-said : Number → Command
+expiry-said (number.Of n) = says.Set (sets.Expiry n)
+expiry-said number.Bad = says.Error
+
+abbrev pub expiryOf : List ℕ → Command
+expiryOf s = expiry-said (numberOf 4294967295 s)
 
 -- ── packets: field after field ──
 abbrev pub stamp-cid : ℕ → Source → Stamped
@@ -277,6 +286,7 @@ fieldsOf room places word.Discovery s = discoveryOf room places s
 fieldsOf room places word.Listen s = listenOf places s
 fieldsOf room places word.Merge s = plain (mergeOf s)
 fieldsOf room places word.Limit s = plain (limitOf s)
+fieldsOf room places word.Expiry s = plain (expiryOf s)
 fieldsOf room places (word.Setting w) s = plain (settingOf w s)
 fieldsOf room places (word.Universe w) s = plain (universeOf w s)
 fieldsOf room places (word.Reading w) s = plain (readingOf w s)

@@ -3,7 +3,7 @@ ghost use mathlib.Core.Path.{_≡_};
 ghost use mathlib.Core.List.{List};
 ghost use Prim.Native.Nat.{ℕ};
 ghost use lib.ListN.{length};
-ghost use Rattle.script.specs.Script.{firstOf, restOf, pastFive, loneOf, settingWord, callWord, wordOf, settingOf, universeOf, readingOf, mergeOf, limitOf, stampOf, numbersOf, dataPacket, dataOf, syncOf, discoveryOf, listenOf, fieldsOf, lineOf, Reads};
+ghost use Rattle.script.specs.Script.{firstOf, restOf, pastFive, loneOf, settingWord, callWord, wordOf, settingOf, universeOf, readingOf, mergeOf, limitOf, expiryOf, stampOf, numbersOf, dataPacket, dataOf, syncOf, discoveryOf, listenOf, fieldsOf, lineOf, Reads};
 use crate::fields::Count;
 use crate::fields::Flag;
 use crate::fields::Number;
@@ -57,6 +57,7 @@ pub enum Setting {
     Merge(MergeChoice),
     NoLimit,
     Limit(u16),
+    Expiry(u32),
 }
 
 // What a reset forgets: the sources altogether, or one half.
@@ -112,6 +113,7 @@ pub enum Word {
     Listen,
     Merge,
     Limit,
+    Expiry,
     Setting(SettingWord),
     Universe(UniverseWord),
     Reading(ReadingWord),
@@ -159,6 +161,9 @@ fn setting_word(word: &[u8]) -> Word
     }
     if is_same(word, b"limit") {
         return Word::Limit;
+    }
+    if is_same(word, b"expiry") {
+        return Word::Expiry;
     }
     Word::Unknown
 }
@@ -225,6 +230,16 @@ fn parse_limit(field: &[u8]) -> Command
         return Command::Error;
     };
     Command::Set(Setting::Limit(n))
+}
+
+// A number of 32 bits.
+fn parse_expiry(field: &[u8]) -> Command
+    ensures { λ r. ⌜ r ≡ expiryOf (now (field .entry)) ⌝ }
+{
+    let Number::Of(n) = parse_number(field, 0xFFFF_FFFF) else {
+        return Command::Error;
+    };
+    Command::Set(Setting::Expiry(n as u32))
 }
 
 // What a packet's fields have in front: the reading and the CID.
@@ -499,6 +514,7 @@ fn parse_fields(word: Word, fields: &[u8], bytes: &mut [u8], list: &mut [u16]) -
         Word::Listen => parse_listen(fields, list),
         Word::Merge => parse_merge(fields),
         Word::Limit => parse_limit(fields),
+        Word::Expiry => parse_expiry(fields),
         Word::Setting(w) => parse_setting(w, fields),
         Word::Universe(w) => parse_universe(w, fields),
         Word::Reading(w) => parse_reading(w, fields),

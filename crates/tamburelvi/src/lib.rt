@@ -1,7 +1,7 @@
 // The receiver for programs in C and Rust: headers, settings, packets and answers are structs of numbers, by value; the memory is lent to every call.
 ghost use mathlib.Core.Path.{_≡_};
 ghost use lib.ListN.{length};
-ghost use Rattle.settings.specs.Settings.{fresh, withPreview, withDiscovery, withTermination, withTimeout, withMerge, withoutLimit, limited, numberOf};
+ghost use Rattle.settings.specs.Settings.{fresh, withPreview, withDiscovery, withTermination, withTimeout, withMerge, withoutLimit, limited, expiring, numberOf};
 ghost use Rattle.listening.specs.View as listening;
 ghost use Rattle.sequences.specs.View as sequences;
 ghost use Rattle.model.specs.Packet.{data-packet, sync-packet, discovery-packet};
@@ -19,10 +19,10 @@ ghost use Rattle.model.specs.Step.{most-listened};
 
 pub mod read_outs;
 
+use boundary::Adjusted;
 use boundary::Choices;
 use boundary::Data;
 use boundary::Header;
-use boundary::Limited;
 use boundary::Page;
 use boundary::Reply;
 use boundary::Sync;
@@ -38,6 +38,7 @@ use boundary::settings_of;
 use boundary::step_reply;
 use boundary::swept;
 use boundary::sync_of;
+use boundary::with_discovery_expiry;
 use boundary::with_source_limit;
 use discovery_rows::HeadRows;
 use discovery_rows::NameRows;
@@ -248,7 +249,7 @@ pub extern "C" fn tamburelvi_poll(
     Reply { header, answer }
 }
 
-// The discovery sweep.
+// The discovery sweep, by the settings' discovery expiry.
 #[no_mangle]
 pub extern "C" fn tamburelvi_remove_expired_sources(
     header: Header,
@@ -256,15 +257,17 @@ pub extern "C" fn tamburelvi_remove_expired_sources(
     names: &mut NameRows,
     pages: &mut PageRows,
     universes: &mut [u16],
+    choices: Choices,
     reading: u64,
 ) -> Reply
     requires { ⌜ KeptDiscovery (receiverOf header .discovery) (now sources) (now names) (now pages) (now universes) ⌝ }
     ensures { λ r. ⌜ ((rest : Memory) →
         let m = discovery-lent sources names pages universes (untouched rest) in
-        Answers (expiry-call (bytes (now (universes .entry))) reading) expiryNumber expiryValues header (m .entry) r (m .exit)) ⌝ }
+        Answers (expiry-call (bytes (now (universes .entry))) (settingsOf choices) reading) expiryNumber expiryValues header (m .entry) r (m .exit)) ⌝ }
 {
     let receiver = receiver_of(header);
-    let h = receiver.remove_expired_sources(sources, names, pages, universes, reading);
+    let settings = settings_of(choices);
+    let h = receiver.remove_expired_sources(sources, names, pages, universes, settings, reading);
     let left = h.receiver;
     let said = h.answer;
     let header = header_of(left);
@@ -411,6 +414,7 @@ pub extern "C" fn tamburelvi_fresh_settings() -> Choices
         announce_timeout: false,
         merge: 0,
         source_limit: 0,
+        discovery_expiry: 20000,
     }
 }
 
@@ -471,10 +475,20 @@ pub extern "C" fn tamburelvi_clear_source_limit(choices: Choices) -> Choices
 
 // A limit of 0 gives 14 and changes nothing.
 #[no_mangle]
-pub extern "C" fn tamburelvi_set_source_limit(choices: Choices, limit: u16) -> Limited
+pub extern "C" fn tamburelvi_set_source_limit(choices: Choices, limit: u16) -> Adjusted
     ensures set { λ r. ⌜ (settingsOf (r .choices) ≡ limited limit (settingsOf choices) .settings)
         × (r .number ≡ numberOf (limited limit (settingsOf choices) .answer)) ⌝ }
     ensures left { λ r. ⌜ (r .number ≡ 14 → r .choices ≡ choices) ⌝ }
 {
     with_source_limit(choices, limit)
+}
+
+// An expiry under 2,500 or over 60,000 gives 20 and changes nothing.
+#[no_mangle]
+pub extern "C" fn tamburelvi_set_discovery_expiry(choices: Choices, expiry: u32) -> Adjusted
+    ensures set { λ r. ⌜ (settingsOf (r .choices) ≡ expiring expiry (settingsOf choices) .settings)
+        × (r .number ≡ numberOf (expiring expiry (settingsOf choices) .answer)) ⌝ }
+    ensures left { λ r. ⌜ (r .number ≡ 20 → r .choices ≡ choices) ⌝ }
+{
+    with_discovery_expiry(choices, expiry)
 }

@@ -2,9 +2,10 @@
 -- Assumes nothing.
 use mathlib.Core.Path.{sym, ap}
 use Rattle.settings.specs.declared.Settings.{Settings}
+use Rattle.settings.specs.declared.Adjusted.{Adjusted}
 use Rattle.receiver.specs.View.{stateOf}
 use Rattle.script.specs.declared.parse.Setting.{Setting}
-use Rattle.replay.specs.Session.{set-to, adjusted}
+use Rattle.replay.specs.Session.{set-to, answered, adjusted}
 use Rattle.replay.specs.SessionLaws.{carries-as}
 use borrow.Author.Needs.{needs}
 use Rattle.replay.proofs.run.adjust.Statement.{statement}
@@ -67,8 +68,20 @@ set-requires-6 c κs = search needs
 enum-known-setting-6 : tie.Need-enum-known-setting-6
 enum-known-setting-6 c = search needs
 
-set-limit-requires : tie.Need-set-limit-requires
-set-limit-requires c κs = search needs
+set-source-limit-requires : tie.Need-set-source-limit-requires
+set-source-limit-requires c κs = search needs
+
+set-answered-requires : tie.Need-set-answered-requires
+set-answered-requires c κs = search needs
+
+enum-known-setting-7 : tie.Need-enum-known-setting-7
+enum-known-setting-7 c = search needs
+
+set-discovery-expiry-requires : tie.Need-set-discovery-expiry-requires
+set-discovery-expiry-requires c κs = search needs
+
+set-answered-requires-2 : tie.Need-set-answered-requires-2
+set-answered-requires-2 c κs = search needs
 
 same-length : tie.Need-same-length
 same-length c = search needs
@@ -142,9 +155,21 @@ same-length-7 c = search needs
 returns-7 : tie.Need-returns-7
 returns-7 c = λ m.
     let c1 = c .before .before in
-    let c2 = c1 .before .before .before in
-    let c3 = c2 .before .before .before .before in
-    carries-as (ap (λ (x : Setting). adjusted x (c3 .args .session .settings) (stateOf (c3 .args .session .receiver) m)) (sym (c2 .setting6 .given .1))) (c1 .set-limit .ensures m)
+    let c2 = c1 .before .before in
+    let c3 = c2 .before .before in
+    let c4 = c3 .before .before .before .before in
+    carries-as (ap (λ (x : Setting). adjusted x (c4 .args .session .settings) (stateOf (c4 .args .session .receiver) m)) (sym (c3 .setting6 .given .1))) (carries-as (ap (λ (a : Adjusted). answered a (stateOf (c4 .args .session .receiver) m)) (c2 .set-source-limit .ensures .0)) (c1 .set-answered .ensures m))
+
+same-length-8 : tie.Need-same-length-8
+same-length-8 c = search needs
+
+returns-8 : tie.Need-returns-8
+returns-8 c = λ m.
+    let c1 = c .before .before in
+    let c2 = c1 .before .before in
+    let c3 = c2 .before .before in
+    let c4 = c3 .before .before .before .before in
+    carries-as (ap (λ (x : Setting). adjusted x (c4 .args .session .settings) (stateOf (c4 .args .session .receiver) m)) (sym (c3 .setting7 .given .1))) (carries-as (ap (λ (a : Adjusted). answered a (stateOf (c4 .args .session .receiver) m)) (c2 .set-discovery-expiry .ensures .0)) (c1 .set-answered2 .ensures m))
 
 pub adjust-spec : {M : Type 1} → statement M
 adjust-spec =
@@ -169,7 +194,11 @@ adjust-spec =
     clear-source-limit-requires
     set-requires-6
     enum-known-setting-6
-    set-limit-requires
+    set-source-limit-requires
+    set-answered-requires
+    enum-known-setting-7
+    set-discovery-expiry-requires
+    set-answered-requires-2
     same-length
     returns
     same-length-2
@@ -183,4 +212,6 @@ adjust-spec =
     same-length-6
     returns-6
     same-length-7
-    returns-7)
+    returns-7
+    same-length-8
+    returns-8)

@@ -52,6 +52,12 @@ enum-told-7 c = search needs
 parse-limit-requires : tie.Need-parse-limit-requires
 parse-limit-requires c κs = search needs
 
+enum-told-8 : tie.Need-enum-told-8
+enum-told-8 c = search needs
+
+parse-expiry-requires : tie.Need-parse-expiry-requires
+parse-expiry-requires c κs = search needs
+
 enum-known-word : tie.Need-enum-known-word
 enum-known-word c = search needs
 
@@ -128,18 +134,24 @@ returns-7 c =
 
 returns-8 : tie.Need-returns-8
 returns-8 c =
-    let c1 = c .before .before in
+    let c1 = c .before in
     let c2 = c1 .before .before .before .before .before in
-    reads-as (ap (readings c2) (c1 .word .given .1)) (reads-plain (c .parse-setting .ensures))
+    reads-as (ap (readings c2) (c1 .enum-told8 .given .1)) (reads-plain (c .parse-expiry .ensures))
 
 returns-9 : tie.Need-returns-9
 returns-9 c =
     let c1 = c .before .before in
     let c2 = c1 .before .before .before .before .before in
-    reads-as (ap (readings c2) (c1 .word2 .given .1)) (reads-plain (c .parse-universe .ensures))
+    reads-as (ap (readings c2) (c1 .word .given .1)) (reads-plain (c .parse-setting .ensures))
 
 returns-10 : tie.Need-returns-10
 returns-10 c =
+    let c1 = c .before .before in
+    let c2 = c1 .before .before .before .before .before in
+    reads-as (ap (readings c2) (c1 .word2 .given .1)) (reads-plain (c .parse-universe .ensures))
+
+returns-11 : tie.Need-returns-11
+returns-11 c =
     let c1 = c .before .before in
     let c2 = c1 .before .before .before .before .before in
     reads-as (ap (readings c2) (c1 .word3 .given .1)) (reads-plain (c .parse-reading .ensures))
@@ -161,6 +173,8 @@ parse-fields-spec =
     parse-merge-requires
     enum-told-7
     parse-limit-requires
+    enum-told-8
+    parse-expiry-requires
     enum-known-word
     parse-setting-requires
     enum-known-word-2
@@ -180,4 +194,5 @@ parse-fields-spec =
     returns-7
     returns-8
     returns-9
-    returns-10)
+    returns-10
+    returns-11)

@@ -34,7 +34,7 @@ use denote.Triple.Spec.{Meets, tripleOf}
 use denote.Triple.Table.{entered, cited}
 use denote.Triple.Walked.{Stays, stay-ref, walkOf, AllGo, goes-ref, Walks, ends-at, walked, walk-meets}
 use denote.Triple.Clauses.{ensured, lasts}
-use Rattle.settings.specs.Settings.{withoutLimit, Proper, unlimited-proper}
+use Rattle.settings.specs.Settings.{withoutLimit, Keeps, unlimited-keeps}
 use Rattle.settings.specs.declared.Settings.{Settings}
 use Rattle.settings.proofs.Settings as S
 use Rattle.settings.proofs.Settings.Laws as S′
@@ -56,7 +56,7 @@ module _ {M : Type 1} (𝓤 : URA M) (H : Heap 𝓤) (A : Atoms 𝓤) (at-mem : 
   Callee = tripleOf 𝓤 H A by-value.signature (by-value.spec 𝓤 H A at-mem run)
 
   said : (h : Settings) (r : Settings) → ent 𝓤 (ensured 𝓤 H A by-value.ended (by-value.clauses 𝓤 H A at-mem run) tt (h, tt) tt r) (fact 𝓤 (r ≡ withoutLimit h))
-  said h r = exE 𝓤 _ (λ ws. via 𝓤 _ (snd∗ 𝓤 (sem 𝓤 H A (lasts by-value.ended tt (h, tt) ws)) (sep 𝓤 (fact 𝓤 (r ≡ withoutLimit h)) (fact 𝓤 (Proper h → Proper r)))) (fst∗ 𝓤 (fact 𝓤 (r ≡ withoutLimit h)) (fact 𝓤 (Proper h → Proper r))))
+  said h r = exE 𝓤 _ (λ ws. via 𝓤 _ (snd∗ 𝓤 (sem 𝓤 H A (lasts by-value.ended tt (h, tt) ws)) (sep 𝓤 (fact 𝓤 (r ≡ withoutLimit h)) (fact 𝓤 (Keeps h r)))) (fst∗ 𝓤 (fact 𝓤 (r ≡ withoutLimit h)) (fact 𝓤 (Keeps h r))))
 
 module _ {M : Type 1} (𝓤 : URA M) (H : Heap 𝓤) (A : Atoms 𝓤) (W : Given 𝓤 H A) (at-mem : Memory → SProp 𝓤) (run : Routine → Fun 𝓤) (κ : Lft) (q : Share) (b o : ℕ) (γ : GName) (h : Settings) where
   abbrev arg : RefT Settings × Unit {0}
@@ -72,7 +72,7 @@ module _ {M : Type 1} (𝓤 : URA M) (H : Heap 𝓤) (A : Atoms 𝓤) (W : Given
   exits r e =
       qed W (‵ (fobs γ (S.the-row .coded .code r)) ∷ ‵ (fbor κ (Body (mem S.the-row) b o γ)) ∷ ‵ (flft κ q) ∷ []) ∵
       suffices ! _ (ends-at 𝓤 H A f.ended stayed (f.clauses 𝓤 H A at-mem run) W (((κ, tt), (q, tt), tt, arg, at), tt) vunit tt (r, tt) (tt, tt)) $
-      says-both ! e (λ p. subst Proper (sym e) (unlimited-proper h p)) $ nothing ! $ move ! (3 ∷ 0 ∷ []) $ join ! $ frame ! $
+      says-both ! e (subst (Keeps h) (sym e) (unlimited-keeps h)) $ nothing ! $ move ! (3 ∷ 0 ∷ []) $ join ! $ frame ! $
       feqI ! (List Val) (vptr b o ∷ []) (vptr b o ∷ []) refl $ fjoin3 ! $ nothing ! $ move ! (1 ∷ 0 ∷ []) $ fjoin ! $
       feqI ! (List Val) (vunit ∷ []) (vunit ∷ []) refl $ move ! (1 ∷ 0 ∷ []) $ done !
 

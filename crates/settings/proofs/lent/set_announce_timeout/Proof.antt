@@ -1,7 +1,7 @@
--- The walk of `Stored.antt`, with the setter by value and the law that it keeps the limit proper.
+-- The walk of `Stored.antt`, with the setter by value and the law that it keeps limit and expiry proper.
 -- Assumes nothing.
 use mathlib.Core.Path.{refl}
-use Rattle.settings.specs.Settings.{withTimeout, timeout-proper}
+use Rattle.settings.specs.Settings.{withTimeout, timeout-keeps}
 use Rattle.settings.proofs.Stored.{flag, stored}
 use Rattle.settings.proofs.Settings.set_announce_timeout.Symbol as by-value
 use Rattle.settings.proofs.Settings.set_announce_timeout.Met.{met}
@@ -11,4 +11,4 @@ use Rattle.settings.proofs.lent.set_announce_timeout.Code as code
 
 pub set-announce-timeout-spec : {M : Type 1} → statement M
 unfolding code.routine
-set-announce-timeout-spec = stored flag by-value.name withTimeout timeout-proper name code.env by-value.routine refl code.unfolded met
+set-announce-timeout-spec = stored flag by-value.name withTimeout timeout-keeps name code.env by-value.routine refl code.unfolded met

@@ -1,7 +1,7 @@
--- The walk of `Stored.antt`, with the setter by value and the law that it keeps the limit proper.
+-- The walk of `Stored.antt`, with the setter by value and the law that it keeps limit and expiry proper.
 -- Assumes nothing.
 use mathlib.Core.Path.{refl}
-use Rattle.settings.specs.Settings.{withMerge, merge-proper}
+use Rattle.settings.specs.Settings.{withMerge, merge-keeps}
 use Rattle.settings.proofs.Stored.{choice, stored}
 use Rattle.settings.proofs.Settings.set_merge.Symbol as by-value
 use Rattle.settings.proofs.Settings.set_merge.Met.{met}
@@ -11,4 +11,4 @@ use Rattle.settings.proofs.lent.set_merge.Code as code
 
 pub set-merge-spec : {M : Type 1} → statement M
 unfolding code.routine
-set-merge-spec = stored choice by-value.name withMerge merge-proper name code.env by-value.routine refl code.unfolded met
+set-merge-spec = stored choice by-value.name withMerge merge-keeps name code.env by-value.routine refl code.unfolded met

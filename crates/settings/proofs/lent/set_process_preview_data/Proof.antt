@@ -1,7 +1,7 @@
--- The walk of `Stored.antt`, with the setter by value and the law that it keeps the limit proper.
+-- The walk of `Stored.antt`, with the setter by value and the law that it keeps limit and expiry proper.
 -- Assumes nothing.
 use mathlib.Core.Path.{refl}
-use Rattle.settings.specs.Settings.{withPreview, preview-proper}
+use Rattle.settings.specs.Settings.{withPreview, preview-keeps}
 use Rattle.settings.proofs.Stored.{flag, stored}
 use Rattle.settings.proofs.Settings.set_process_preview_data.Symbol as by-value
 use Rattle.settings.proofs.Settings.set_process_preview_data.Met.{met}
@@ -11,4 +11,4 @@ use Rattle.settings.proofs.lent.set_process_preview_data.Code as code
 
 pub set-process-preview-data-spec : {M : Type 1} → statement M
 unfolding code.routine
-set-process-preview-data-spec = stored flag by-value.name withPreview preview-proper name code.env by-value.routine refl code.unfolded met
+set-process-preview-data-spec = stored flag by-value.name withPreview preview-keeps name code.env by-value.routine refl code.unfolded met
