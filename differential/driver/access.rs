@@ -7,16 +7,22 @@ use crate::clock;
 use crate::script::{Command, Data, Discovery, Sync};
 use std::io::{self, Write};
 
-/// What a command answers: nothing further, a yes or no, or released data.
+/// What a command answers: nothing further, a yes or no, released data, or a refused discovery expiry.
 enum Done {
     Nothing,
     Held(bool),
     Released(Vec<DMXData>),
+    Refused,
 }
 
-/// A receiver, made by the crate's own constructor.
+/// The discovery expiry of fresh settings (document 02, F-3), and the one that the crate sweeps by.
+const FRESH_EXPIRY: u32 = 20_000;
+const CRATE_EXPIRY: u32 = 2_500;
+
+/// A receiver, made by the crate's own constructor, and beside it the discovery expiry, which the crate has not.
 pub struct Replay {
     receiver: SacnReceiver,
+    expiry: u32,
     /// Gives document 01's 1 and 10 to 13 as well, which the crate has not: a stand-in for the port.
     limits: bool,
 }
@@ -31,7 +37,11 @@ fn receiver(limit: Option<usize>) -> Result<SacnReceiver> {
 impl Replay {
     pub fn new(limits: bool) -> Replay {
         let receiver = receiver(None).expect("a fresh receiver");
-        Replay { receiver, limits }
+        Replay {
+            receiver,
+            expiry: FRESH_EXPIRY,
+            limits,
+        }
     }
 
     /// Carries out one command and prints its answer.
@@ -60,6 +70,7 @@ impl Replay {
         Some(match command {
             Command::Fresh => {
                 *r = receiver(None).expect("a fresh receiver");
+                self.expiry = FRESH_EXPIRY;
                 Ok(Done::Nothing)
             }
             Command::Preview(on) => {
@@ -90,6 +101,12 @@ impl Replay {
                 r.source_limit = made.source_limit;
                 Done::Nothing
             }),
+            // Document 02, F-3: the crate has no such setting.
+            Command::Expiry(expiry) if !(2_500..=60_000).contains(&expiry) => Ok(Done::Refused),
+            Command::Expiry(expiry) => {
+                self.expiry = expiry;
+                Ok(Done::Nothing)
+            }
             Command::Listen(universes) => r.listen_universes(&universes).map(|()| Done::Nothing),
             Command::Mute(universe) => r.mute_universe(universe).map(|()| Done::Nothing),
             Command::Listening(universe) => Ok(Done::Held(r.is_listening(&universe))),
@@ -126,6 +143,20 @@ impl Replay {
             },
             Command::Dump => Ok(Done::Nothing),
         })
+    }
+
+    /// Why the crate cannot carry out the command, if so.
+    pub fn outside(&self, command: &Command) -> Option<String> {
+        match command {
+            Command::Sweep(_) if self.expiry != CRATE_EXPIRY => Some(format!(
+                "the crate's discovery sweep is by {CRATE_EXPIRY} ms, and the discovery expiry is {}: set `expiry {CRATE_EXPIRY}` before it",
+                self.expiry
+            )),
+            Command::Discovery(packet) if std::str::from_utf8(&packet.name).is_err() => {
+                Some("a name that is not UTF-8 lies outside the differential domain".into())
+            }
+            _ => None,
+        }
     }
 
     fn pages(&self) -> usize {
@@ -233,10 +264,7 @@ fn sync(r: &mut SacnReceiver, packet: Sync) -> Result<Done> {
 
 // As `recv` does: the name is given only if discovery is announced.
 fn discovery(r: &mut SacnReceiver, packet: Discovery) -> Result<Done> {
-    let Ok(name) = String::from_utf8(packet.name) else {
-        eprintln!("a name that is not UTF-8 lies outside the differential domain");
-        std::process::exit(2);
-    };
+    let name = String::from_utf8(packet.name).expect("a name that is UTF-8");
     let framing = UniverseDiscoveryPacketFramingLayer {
         source_name: name.into(),
         data: UniverseDiscoveryPacketUniverseDiscoveryLayer {
@@ -260,6 +288,7 @@ fn print_answer(answer: Result<Done>, out: &mut impl Write) -> io::Result<()> {
     match answer {
         Ok(Done::Nothing) => write!(out, "0")?,
         Ok(Done::Held(held)) => write!(out, "0 {}", u8::from(held))?,
+        Ok(Done::Refused) => write!(out, "20")?,
         Ok(Done::Released(data)) => {
             let mut bytes = Vec::new();
             data.iter().for_each(|d| record(d, &mut bytes));

@@ -1,5 +1,6 @@
 //! Reads a replay script on standard input, carries it out on the crate's test copy and prints the answers.
 //! With the argument `limits` it also gives document 01's stops 1 and 10 to 13, as the port would.
+//! At a command that the crate cannot carry out it says so, with the line's number, and ends with status 2.
 
 #![allow(warnings)]
 
@@ -23,14 +24,21 @@ fn main() -> io::Result<()> {
     if lines.last().is_some_and(|l| l.is_empty()) {
         lines.pop();
     }
-    for line in lines {
+    for (place, line) in lines.into_iter().enumerate() {
         // A line may end in carriage return and line feed.
         let line = line.strip_suffix(b"\r").unwrap_or(line);
         if line.is_empty() || line[0] == b'#' {
             continue;
         }
         match std::str::from_utf8(line).ok().and_then(script::parse) {
-            Some(command) => replay.carry_out(command, &mut out)?,
+            Some(command) => {
+                if let Some(why) = replay.outside(&command) {
+                    out.flush()?;
+                    eprintln!("line {}: {why}", place + 1);
+                    std::process::exit(2);
+                }
+                replay.carry_out(command, &mut out)?
+            }
             None => writeln!(out, "error")?,
         }
     }

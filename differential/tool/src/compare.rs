@@ -45,6 +45,26 @@ impl Side {
         ))?;
         Ok(String::from_utf8_lossy(&output).into_owned())
     }
+
+    /// What the side says on standard error to a script at which it ends.
+    fn complaint(&self, script: &[String]) -> Result<String, String> {
+        let mut child = Command::new(&self.command[0])
+            .args(&self.command[1..])
+            .stdin(Stdio::piped())
+            .stdout(Stdio::null())
+            .stderr(Stdio::piped())
+            .spawn()
+            .map_err(|e| format!("{}: {e}", self.command[0]))?;
+        let mut stdin = child.stdin.take().expect("a pipe");
+        let _ = stdin.write_all(lines(script).as_bytes());
+        drop(stdin);
+        let output = child.wait_with_output().map_err(|e| e.to_string())?;
+        Ok(String::from_utf8_lossy(&output.stderr).trim_end().into())
+    }
+}
+
+fn lines(script: &[String]) -> String {
+    script.iter().map(|l| format!("{l}\n")).collect()
 }
 
 fn read_patiently(child: &mut Child) -> Option<Vec<u8>> {
@@ -190,8 +210,9 @@ pub fn compare(
         }
         let Some(a) = a else {
             return Err(format!(
-                "the crate's side ended at line {}: {command}",
-                place + 1
+                "the crate's side ended at line {}: {command}\n{}",
+                place + 1,
+                reference.complaint(&script[..=place])?
             ));
         };
         let Some(b) = b else {
@@ -368,7 +389,7 @@ pub fn compare_one(
     limits: bool,
     counts: &mut Counts,
 ) -> Result<Option<Difference>, String> {
-    let text = script.iter().map(|l| format!("{l}\n")).collect::<String>();
+    let text = lines(script);
     let (a, b) = (reference.run(&text)?, port.run(&text)?);
     compare(
         script,

@@ -1,5 +1,7 @@
-//! A recorded sample: short scripts that together see every number that the crate gives, every kind of dump line, every reset
-//! over every table with something in it, and a synchronisation pair that outlives a termination.
+//! A recorded sample: short scripts that together see every number that the crate's driver gives, every kind of dump line, every
+//! reset over every table with something in it, a synchronisation pair that outlives a termination, a source that stood
+//! before two others and is listed again, discovery sweeps behind refused expiries, and polls while the discovery expiry is not
+//! the crate's.
 
 use crate::compare::{Answers, Side, concatenated, is_silent, number};
 use crate::scripts::{self, KINDS};
@@ -9,10 +11,14 @@ use std::collections::BTreeSet;
 const MOST_BYTES: usize = 1_000_000;
 
 /// What every sample must have seen.
-const NUMBERS: [usize; 11] = [0, 2, 3, 4, 5, 6, 7, 8, 9, 14, 21];
+const NUMBERS: [usize; 12] = [0, 2, 3, 4, 5, 6, 7, 8, 9, 14, 20, 21];
 const MARKS: [&str; 11] = ["d", "dc", "y", "yc", "w", "l", "p", "pp", "q", "qp", "."];
 const RESETS: [&str; 3] = ["reset", "reset_pairs", "reset_discovery"];
 const TABLES: [&str; 5] = ["d", "y", "w", "p", "q"];
+const AGAIN: &str = "a source that stood before two others is listed again, up to a dump";
+const SHORT: &str = "a discovery sweep behind a refused short expiry";
+const LONG: &str = "a discovery sweep behind a refused long expiry";
+const OTHER: &str = "a poll while the expiry is not the crate's";
 const OUTLIVES: &str =
     "a synchronisation pair outlives a termination of an unknown data pair, up to a dump";
 
@@ -57,8 +63,13 @@ pub fn choose(count: usize, reference: &Side) -> Result<(String, String), String
     let numbers = NUMBERS.iter().map(|n| format!("number {n}"));
     let marks = MARKS.iter().map(|m| format!("line {m}"));
     let resets = RESETS.iter().flat_map(|r| TABLES.map(|t| finding(r, t, 2)));
-    let outlives = [OUTLIVES.to_string()];
-    for wanted in numbers.chain(marks).chain(resets).chain(outlives) {
+    let left = ["p", "q"].map(|t| change(SHORT, false, t));
+    let swept = ["p", "q"].map(|t| change(LONG, true, t));
+    let polled = ["d", "y", "w"].map(|t| change(OTHER, true, t));
+    let up_to_dumps = [OUTLIVES, AGAIN].map(String::from);
+    let expiries = left.into_iter().chain(swept).chain(polled);
+    let all = numbers.chain(marks).chain(resets).chain(up_to_dumps);
+    for wanted in all.chain(expiries) {
         if !seen.contains(&wanted) {
             return Err(format!("the sample lacks {wanted}"));
         }
@@ -96,6 +107,8 @@ fn candidates(
         let mut same = of_crate.next("fresh") == of_limits.next("fresh");
         of_watched.next("fresh");
         let mut lasting = Vec::new();
+        let mut again = Again::default();
+        let mut expiry = Expiry::default();
         for command in &script {
             bytes += command.len() + 1;
             if is_silent(command) {
@@ -113,6 +126,8 @@ fn candidates(
             bytes += x.len() + 1;
             note(command, x, &mut features);
             note_found(command, before, &mut lasting, &mut features);
+            again.note(command, before, &mut features);
+            expiry.note(command, x, before, &mut features);
         }
         if same {
             found.push(Candidate {
@@ -163,6 +178,86 @@ fn note_found<'a>(
             features.insert(OUTLIVES.into());
         }
         lasting.clear();
+    }
+}
+
+// Sources that were listed again.
+#[derive(Default)]
+struct Again<'a> {
+    // The source of the last command, if that was a page, and the listed sources before it.
+    page: Option<(String, Vec<&'a str>)>,
+    // For each the sources that stood behind it, and then itself.
+    orders: Vec<Vec<&'a str>>,
+}
+
+impl<'a> Again<'a> {
+    fn note(&mut self, command: &str, now: &'a str, features: &mut BTreeSet<String>) {
+        let cids = now
+            .lines()
+            .filter_map(|l| l.strip_prefix("q ")?.split(' ').next());
+        let listed: Vec<&str> = cids.collect();
+        if let Some((cid, mut before)) = self.page.take()
+            && let Some(place) = before.iter().position(|c| *c == cid)
+            && place + 2 < before.len()
+            && listed.last() == Some(&before[place])
+        {
+            before.drain(..place);
+            before.rotate_left(1);
+            self.orders.push(before);
+        }
+        let fields: Vec<&str> = command.split(' ').collect();
+        match fields[..] {
+            ["discovery", _, cid, ..] => self.page = Some((cid.into(), listed)),
+            ["dump"] => {
+                let held =
+                    |order: &Vec<&str>| listed.iter().filter(|c| order.contains(c)).eq(order);
+                if self.orders.iter().any(held) {
+                    features.insert(AGAIN.into());
+                }
+            }
+            _ => {}
+        }
+    }
+}
+
+// A command that dropped or left an entry of a table.
+fn change(what: &str, dropped: bool, table: &str) -> String {
+    let verb = if dropped { "drops" } else { "leaves" };
+    format!("{what} {verb} {table}")
+}
+
+// The discovery expiry as a script has set it.
+#[derive(Default)]
+struct Expiry<'a> {
+    // Whether it is not the crate's, and which was refused since.
+    other: bool,
+    refused: Option<&'static str>,
+    // The last command, if it is one of those above, and the dump before it.
+    before: Option<(&'static str, &'a str)>,
+}
+
+impl<'a> Expiry<'a> {
+    fn note(&mut self, command: &str, answer: &str, now: &'a str, features: &mut BTreeSet<String>) {
+        if let Some((what, before)) = self.before.take() {
+            for line in before.lines() {
+                let dropped = !now.lines().any(|l| l == line);
+                for table in TABLES.iter().filter(|t| line.starts_with(&format!("{t} "))) {
+                    features.insert(change(what, dropped, table));
+                }
+            }
+        }
+        match command.split_once(' ') {
+            Some(("expiry", n)) if answer == "0" => {
+                self.other = n != "2500";
+                self.refused = None;
+            }
+            Some(("expiry", n)) if answer == "20" => {
+                self.refused = Some(if n.len() < 5 { SHORT } else { LONG });
+            }
+            Some(("sweep", _)) => self.before = self.refused.map(|what| (what, now)),
+            Some(("poll", _)) if self.other => self.before = Some((OTHER, now)),
+            _ => {}
+        }
     }
 }
 

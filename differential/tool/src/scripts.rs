@@ -26,6 +26,7 @@ struct Choice {
     listening: usize,
     setting: usize,
     limit: usize,
+    expiry: usize,
     malformed: usize,
     dump: usize,
     // Data packets.
@@ -51,6 +52,7 @@ struct Choice {
     want_preview: usize,
     highest: usize,
     limited: usize,
+    other_expiry: usize,
     // How many sources and universes, at most.
     sources: usize,
     universes: usize,
@@ -72,6 +74,7 @@ const MIXED: Choice = Choice {
     listening: 1,
     setting: 3,
     limit: 1,
+    expiry: 1,
     malformed: 0,
     dump: 12,
     synchronised: 50,
@@ -93,6 +96,7 @@ const MIXED: Choice = Choice {
     want_preview: 60,
     highest: 50,
     limited: 15,
+    other_expiry: 15,
     sources: 4,
     universes: 4,
 };
@@ -137,7 +141,7 @@ pub const KINDS: &[(&str, &str)] = &[
     ),
     (
         "settings",
-        "setters between all other commands, limit 0 among them",
+        "setters between all other commands, limit 0 and refused expiries among them",
     ),
     (
         "clock",
@@ -181,6 +185,7 @@ fn choice(kind: &str) -> Choice {
             sweep: 1,
             listen: 0,
             mute: 0,
+            expiry: 2,
             boundary: 4,
             terminated: 2,
             still: 30,
@@ -188,6 +193,7 @@ fn choice(kind: &str) -> Choice {
             fall: 5,
             announce_timeout: 70,
             limited: 5,
+            other_expiry: 40,
             sources: 5,
             universes: 4,
             ..base
@@ -263,6 +269,7 @@ fn choice(kind: &str) -> Choice {
             sync: 1,
             discovery: 70,
             sweep: 6,
+            expiry: 3,
             terminated: 50,
             aim: 8,
             sources: 5,
@@ -283,6 +290,7 @@ fn choice(kind: &str) -> Choice {
         "settings" => Choice {
             setting: 25,
             limit: 8,
+            expiry: 6,
             aim: 10,
             ..base
         },
@@ -308,6 +316,11 @@ const ODD_UNIVERSES: [u16; 10] = [
 ];
 const UNIVERSES: [u16; 12] = [1, 2, 3, 4, 7, 255, 256, 257, 512, 32768, 63998, 63999];
 
+// The discovery expiry that the crate sweeps by, others that are taken, and refused ones.
+const CRATE_EXPIRY: u32 = 2500;
+const OTHER_EXPIRIES: [u32; 4] = [2501, 20_000, 59_999, 60_000];
+const REFUSED_EXPIRIES: [u32; 4] = [0, 2499, 60_001, u32::MAX];
+
 struct Script {
     rng: Rng,
     choice: Choice,
@@ -322,6 +335,8 @@ struct Script {
     plans: HashMap<Cid, (u8, Vec<u8>)>,
     // Whether discovery pages come without gaps, repeats and other strays.
     tidy: bool,
+    // The discovery expiry as the script has set it.
+    expiry: u32,
 }
 
 /// The script of a kind, seed and number. A short one has some 12 to 30 commands instead of 60 to 150.
@@ -338,6 +353,7 @@ pub fn script(kind: &str, seed: u64, number: u64, short: bool) -> Vec<String> {
     choice.unlike *= rng.pick(&[0, 1, 1, 5]);
     choice.priority = rng.pick(&[0, choice.priority, choice.priority, 60]);
     let mut script = Script::new(rng, choice, kind == "clock");
+    script.set_expiry(CRATE_EXPIRY);
     if full {
         script.full(short);
     } else {
@@ -415,6 +431,7 @@ impl Script {
             names,
             plans: HashMap::new(),
             tidy,
+            expiry: 20_000,
         }
     }
 
@@ -455,6 +472,10 @@ impl Script {
             let limit = self.rng.between(1, c.sources.saturating_sub(1).max(1));
             self.say(format!("limit {limit}"));
         }
+        if self.rng.percent(c.other_expiry) {
+            let expiry = self.rng.pick(&OTHER_EXPIRIES);
+            self.set_expiry(expiry);
+        }
         let mut wanted = self.universes.clone();
         if self.rng.percent(20) {
             wanted.truncate(self.rng.between(1, wanted.len()));
@@ -484,6 +505,7 @@ impl Script {
             c.listening,
             c.setting,
             c.limit,
+            c.expiry,
             c.malformed,
             c.dump,
         ];
@@ -502,7 +524,7 @@ impl Script {
                 } else {
                     self.tick()
                 };
-                self.say(format!("sweep {now}"));
+                self.sweep(now);
             }
             5 => {
                 let universe = self.universe();
@@ -527,7 +549,8 @@ impl Script {
             }
             13 => self.setting(),
             14 => self.limit(),
-            15 => self.malformed(),
+            15 => self.expiry(),
+            16 => self.malformed(),
             _ => self.say("dump".into()),
         }
     }
@@ -538,6 +561,14 @@ impl Script {
             self.last.clear();
         }
         self.say(word.into());
+    }
+
+    // A discovery sweep; if the discovery expiry is not the crate's, it is set to that first.
+    fn sweep(&mut self, now: u64) {
+        if self.expiry != CRATE_EXPIRY {
+            self.set_expiry(CRATE_EXPIRY);
+        }
+        self.say(format!("sweep {now}"));
     }
 
     // The clock's next reading.
@@ -795,12 +826,29 @@ impl Script {
         }
     }
 
+    // The discovery expiry: the crate's again, another, which stays up to the next discovery sweep, or a refused one.
+    fn expiry(&mut self) {
+        let expiry = match self.rng.below(6) {
+            0 => CRATE_EXPIRY,
+            1 | 2 => self.rng.pick(&OTHER_EXPIRIES),
+            _ => self.rng.pick(&REFUSED_EXPIRIES),
+        };
+        self.set_expiry(expiry);
+    }
+
+    fn set_expiry(&mut self, expiry: u32) {
+        if (2500..=60_000).contains(&expiry) {
+            self.expiry = expiry;
+        }
+        self.say(format!("expiry {expiry}"));
+    }
+
     // Lines that are plainly no commands, and lines that print nothing.
     fn malformed(&mut self) {
         let now = self.now;
         let cid = hex(&self.cids[0]);
         let universe = self.universe();
-        let line = match self.rng.below(38) {
+        let line = match self.rng.below(42) {
             0 => "".into(),
             1 => "# a remark".into(),
             2 => "#".into(),
@@ -838,6 +886,10 @@ impl Script {
             34 => "reset_pair".into(),
             35 => "reset_discovery 0".into(),
             36 => "reset discovery".into(),
+            37 => "expiry".into(),
+            38 => "expiry -".into(),
+            39 => "expiry 4294967296".into(),
+            40 => "expiry 2500 1".into(),
             _ => format!("data {now} {cid} {universe} 0 100 1 0 00 "),
         };
         self.say(line);
@@ -846,6 +898,9 @@ impl Script {
     // Scripts around the sizes of the node's tables.
     fn full(&mut self, short: bool) {
         self.now = 1000 + self.rng.below(1000) as u64;
+        if self.rng.percent(50) {
+            self.expiry();
+        }
         match self.rng.weighted(&[5, 5, 2 * usize::from(!short), 3, 4]) {
             0 => self.full_waiting(short),
             1 => self.full_pages(),
@@ -932,7 +987,7 @@ impl Script {
             match self.rng.below(6) {
                 0 => {
                     self.now += self.rng.pick(&[1, 2499, 2500]);
-                    self.say(format!("sweep {}", self.now));
+                    self.sweep(self.now);
                 }
                 1 => self.say("dump".into()),
                 2 => {
