@@ -82,6 +82,7 @@ int main(void) {
         tamburelvi_receiver_set_process_preview_data(&receiver, below(2));
         tamburelvi_receiver_set_merge(&receiver, below(2) ? TAMBURELVI_HTP_DMX_MERGE : TAMBURELVI_DISCARD_LOWEST_PRIORITY_THEN_PREVIOUS);
         if (below(4) == 0) tamburelvi_receiver_set_source_limit(&receiver, (uint16_t)(1 + below(4)));
+        tamburelvi_receiver_set_discovery_expiry(&receiver, (uint32_t[]){2500, 20000, 60000}[below(3)]);
         list_length = universes;
         for (unsigned i = 0; i < universes; i++) list[i] = (uint16_t)(i + 1);
         carry_out(LISTEN);

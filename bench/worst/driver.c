@@ -57,7 +57,7 @@ static void take_page(void) {
         list_length, out, sizeof out);
 }
 static void poll(void) { reply = tamburelvi_poll(now.header, TABLES, ENTRIES, settings, reading); }
-static void expire(void) { reply = tamburelvi_remove_expired_sources(now.header, FOUND, reading); }
+static void expire(void) { reply = tamburelvi_remove_expired_sources(now.header, FOUND, settings, reading); }
 static void listen(void) { reply = tamburelvi_listen_universes(now.header, HEARD, list, list_length); }
 static void mute(void) { reply = tamburelvi_mute_universe(now.header, HEARD, universe); }
 static void clear(void) { reply = tamburelvi_clear_waiting_data(now.header, ENTRIES, universe); }
@@ -509,6 +509,7 @@ static void sources_64(bool old) {
 }
 static void expire_all(void) {
     sources_64(true);
+    reading = OLD + settings.discovery_expiry; // not CALL: they expire by the setting
     expect_nothing();
     expected.sources = expected.pages = expected.page_universes = 0;
 }

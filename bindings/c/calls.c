@@ -1,5 +1,5 @@
 /* Every function of tamburelvi.h, and every number that a caller can bring about. calls.expected was written by hand from
- * document 01; the comments name its rules. */
+ * documents 01 and 02; the comments name their rules. */
 #include "tamburelvi.h"
 #include <stdio.h>
 #include <stdlib.h>
@@ -129,8 +129,8 @@ static void show_state(void) {
 
 static void show_settings(void) {
     const tamburelvi_settings *s = &receiver.settings;
-    printf("  settings: %d %d %d %d %d %d\n", s->process_preview_data, s->announce_source_discovery,
-        s->announce_stream_termination, s->announce_timeout, s->merge, s->source_limit);
+    printf("  settings: %d %d %d %d %d %d %lu\n", s->process_preview_data, s->announce_source_discovery,
+        s->announce_stream_termination, s->announce_timeout, s->merge, s->source_limit, (unsigned long)s->discovery_expiry);
 }
 
 /* ---- packets ---- */
@@ -222,13 +222,13 @@ static void unmade(const char *which, tamburelvi_receiver *q) {
         tamburelvi_receiver_clear_waiting_data(q, 1).number, tamburelvi_receiver_clear_all_waiting_data(q).number,
         tamburelvi_receiver_reset_pairs(q).number, tamburelvi_receiver_reset_discovery(q).number,
         tamburelvi_receiver_reset_sources(q).number);
-    printf(", settings %d %d %d %d %d %d %d %d", tamburelvi_receiver_fresh_settings(q).number,
+    printf(", settings %d %d %d %d %d %d %d %d %d", tamburelvi_receiver_fresh_settings(q).number,
         tamburelvi_receiver_set_process_preview_data(q, true).number,
         tamburelvi_receiver_set_announce_source_discovery(q, true).number,
         tamburelvi_receiver_set_announce_stream_termination(q, true).number,
         tamburelvi_receiver_set_announce_timeout(q, true).number,
         tamburelvi_receiver_set_merge(q, TAMBURELVI_HTP_DMX_MERGE).number, tamburelvi_receiver_clear_source_limit(q).number,
-        tamburelvi_receiver_set_source_limit(q, 1).number);
+        tamburelvi_receiver_set_source_limit(q, 1).number, tamburelvi_receiver_set_discovery_expiry(q, 2500).number);
     printf(", read-outs %d %d %d %d %d %d %d %d %d\n", tamburelvi_receiver_is_listening(q, 64214),
         tamburelvi_receiver_data_pair(q, 0, &pair), tamburelvi_receiver_sync_pair(q, 0, &pair),
         tamburelvi_receiver_data_source(q, 0, cid), tamburelvi_receiver_sync_source(q, 0, cid),
@@ -432,7 +432,8 @@ static void timeouts(void) {
     show_pairs();
 }
 
-/* 'Discovery'; the name is tested before the list; a termination drops the universe from the listed source's pages. */
+/* 'Discovery'; the name is tested before the list; a termination drops the universe from the listed source's pages. By a
+ * discovery expiry of 2,500 the discovery sweep is document 01's: age 2,499 stays, 2,500 goes. */
 static void discovery(void) {
     tamburelvi_discovery_packet g;
     tamburelvi_data_packet d;
@@ -440,6 +441,7 @@ static void discovery(void) {
     list[0] = 1;
     list[1] = 2;
     show("announce discoveries", tamburelvi_receiver_set_announce_source_discovery(r, true));
+    show("discovery expiry 2,500", tamburelvi_receiver_set_discovery_expiry(r, 2500));
     show("A, page 0 of 0", take_page(30000, page(0x30, 0, 0, 4, 2)));
     memcpy(name, "rack", 4);
     show("B, page 1 of 1", take_page(30001, page(0x40, 1, 1, 4, 1)));
@@ -465,6 +467,181 @@ static void discovery(void) {
     show_sources();
 }
 
+/* ---- document 02, F-3: the discovery expiry ---- */
+
+static bool same_settings(tamburelvi_settings a, tamburelvi_settings b) {
+    return a.process_preview_data == b.process_preview_data && a.announce_source_discovery == b.announce_source_discovery &&
+        a.announce_stream_termination == b.announce_stream_termination && a.announce_timeout == b.announce_timeout &&
+        a.merge == b.merge && a.source_limit == b.source_limit && a.discovery_expiry == b.discovery_expiry;
+}
+
+/* The setter on its own: the number, the expiry that it leaves, and whether the other fields are as they were. */
+static void set_expiry(tamburelvi_settings s, uint32_t expiry) {
+    tamburelvi_adjusted a = tamburelvi_set_discovery_expiry(s, expiry);
+    printf("  %lu: %d, now %lu,", (unsigned long)expiry, a.number, (unsigned long)a.settings.discovery_expiry);
+    a.settings.discovery_expiry = s.discovery_expiry;
+    printf(" the others as before: %d\n", same_settings(a.settings, s));
+}
+
+/* The ends of the range and the numbers next to them; 2,500 and 20,000 with 65,536 more; the ends of 32 bits. Then whether each
+ * of the other setters leaves the expiry. */
+static void setters(const char *which, tamburelvi_settings s) {
+    static const uint32_t tried[] = {0, 2499, 2500, 2501, 20000, 59999, 60000, 60001, 68036, 85536, 4294967295u};
+    const uint32_t e = s.discovery_expiry;
+    printf("%s\n", which);
+    for (size_t i = 0; i < sizeof tried / sizeof tried[0]; i++) set_expiry(s, tried[i]);
+    printf("  the other setters leave it: %d %d %d %d %d %d %d %d\n",
+        tamburelvi_set_process_preview_data(s, true).discovery_expiry == e,
+        tamburelvi_set_announce_source_discovery(s, true).discovery_expiry == e,
+        tamburelvi_set_announce_stream_termination(s, true).discovery_expiry == e,
+        tamburelvi_set_announce_timeout(s, true).discovery_expiry == e, tamburelvi_set_merge(s, 1).discovery_expiry == e,
+        tamburelvi_clear_source_limit(s).discovery_expiry == e,
+        tamburelvi_set_source_limit(s, 3).settings.discovery_expiry == e,
+        tamburelvi_set_source_limit(s, 0).settings.discovery_expiry == e);
+}
+
+/* Two settings, the one with off what the other has on. Merge 7, which is read as 1, and an expiry that no setter gives stay. */
+static void ranges(void) {
+    tamburelvi_settings s, t = tamburelvi_fresh_settings();
+    printf("fresh: %lu\n", (unsigned long)t.discovery_expiry);
+    s = tamburelvi_set_announce_timeout(tamburelvi_set_announce_source_discovery(t, true), true);
+    s.merge = 7;
+    s.source_limit = 9;
+    s.discovery_expiry = 30000;
+    setters("after 30,000", s);
+    t = tamburelvi_set_announce_stream_termination(tamburelvi_set_process_preview_data(t, true), true);
+    t.discovery_expiry = 60001;
+    setters("after 60,001, written by hand", t);
+
+    show("discovery expiry 60,000", tamburelvi_receiver_set_discovery_expiry(r, 60000));
+    show("discovery expiry 60,001", tamburelvi_receiver_set_discovery_expiry(r, 60001));
+    show_settings();
+    show("discovery expiry 2,500", tamburelvi_receiver_set_discovery_expiry(r, 2500));
+    show("discovery expiry 2,499", tamburelvi_receiver_set_discovery_expiry(r, 2499));
+    show_settings();
+    show("fresh settings", tamburelvi_receiver_fresh_settings(r));
+    show_settings();
+}
+
+/* A listed source and a partial one. */
+static void two_pages(uint64_t reading) {
+    memcpy(name, "desk", 4);
+    show("A, page 0 of 0", take_page(reading, page(0x30, 0, 0, 4, 2)));
+    memcpy(name, "rack", 4);
+    show("B, page 1 of 1", take_page(reading, page(0x40, 1, 1, 4, 1)));
+}
+
+static void show_counts(void) {
+    const tamburelvi_header *h = &receiver.header;
+    printf("  %zu data pairs, %zu sync pairs, %zu waiting, %zu sources of %zu pages\n", h->data_pairs, h->sync_pairs,
+        h->waiting, h->sources, h->pages);
+}
+
+/* A source that announces itself every 10,000 ms, and then no more: whether it is listed after each discovery sweep, of which
+ * there is one every 5,000 ms, just before the announcement where both come together. */
+static void announces(void) {
+    tamburelvi_source s;
+    uint64_t now = 100000;
+    take_page(now, page(0x30, 0, 0, 4, 2));
+    printf("  announced every 10,000:");
+    for (int i = 1; i <= 8; i++) {
+        now += 5000;
+        tamburelvi_receiver_remove_expired_sources(r, now);
+        printf(" %d", tamburelvi_receiver_source_at(r, TAMBURELVI_LISTED, 0, &s));
+        if (i % 2 == 0) take_page(now, page(0x30, 0, 0, 4, 2));
+    }
+    printf(", no more:");
+    for (int i = 1; i <= 5; i++) {
+        now += 5000;
+        tamburelvi_receiver_remove_expired_sources(r, now);
+        printf(" %d", tamburelvi_receiver_source_at(r, TAMBURELVI_LISTED, 0, &s));
+    }
+    printf("\n");
+}
+
+static void sweep_at(uint64_t age) {
+    printf("discovery sweep at age %llu", (unsigned long long)age);
+    show("", tamburelvi_receiver_remove_expired_sources(r, 200000 + age));
+    show_sources();
+}
+
+/* Both stay one millisecond before the expiry, and go at it. */
+static void at_age(uint64_t expiry) {
+    two_pages(200000);
+    sweep_at(expiry - 1);
+    sweep_at(expiry);
+}
+
+/* The library's discovery sweep by settings that no setter gave: it goes by what they hold, and gives no 20. */
+static void sweep_by(tamburelvi_settings s, uint64_t age) {
+    tamburelvi_memory *m = &receiver.memory;
+    tamburelvi_reply reply = tamburelvi_remove_expired_sources(receiver.header, &m->sources, &m->names, &m->pages, m->universes,
+        TAMBURELVI_UNIVERSES, s, 200000 + age);
+    receiver.header = reply.header;
+    printf("discovery sweep by %lu at age %llu", (unsigned long)s.discovery_expiry, (unsigned long long)age);
+    show("", reply.answer);
+    show_counts();
+}
+
+static void sweep_by_hand(uint32_t expiry, uint64_t age) {
+    tamburelvi_settings s = tamburelvi_fresh_settings();
+    s.discovery_expiry = expiry;
+    sweep_by(s, age);
+}
+
+/* Pairs of both tables and waiting data expire at 2,500, whatever the discovery expiry is; the poll drops no source, and the
+ * discovery sweep nothing else. */
+static void pairs_keep_2500(void) {
+    two_pages(300000);
+    show("A, sequence 5", take(300000, data(0x30, 1, 0, 5, 2)));
+    show("synchronisation of A, sequence 5", take_sync(300000, 0x30, 7, 5, sizeof out));
+    show("B under 7", take(300000, data(0x40, 7, 7, 9, 2)));
+    show("poll at 302,499", tamburelvi_receiver_poll(r, 302499));
+    show_counts();
+    show("discovery sweep at 302,500", tamburelvi_receiver_remove_expired_sources(r, 302500));
+    show_counts();
+    show("poll at 302,500", tamburelvi_receiver_poll(r, 302500));
+    show_counts();
+    show("reset discovery", tamburelvi_receiver_reset_discovery(r));
+}
+
+/* The range, and what a refusal leaves; how long a source stays; what the setting does not touch. */
+static void discovery_expiry(void) {
+    tamburelvi_settings zeroed;
+    show("fresh settings", tamburelvi_receiver_fresh_settings(r));
+    ranges();
+
+    printf("by the fresh 20,000\n");
+    announces();
+    at_age(20000);
+    show("discovery expiry 2,500", tamburelvi_receiver_set_discovery_expiry(r, 2500));
+    announces();
+    at_age(2500);
+    show("discovery expiry 60,000", tamburelvi_receiver_set_discovery_expiry(r, 60000));
+    at_age(60000);
+
+    two_pages(200000);
+    sweep_by_hand(2499, 2498);
+    sweep_by_hand(60001, 60000);
+    sweep_by_hand(4294967295u, 4294967294u);
+    sweep_by_hand(4294967295u, 4294967295u);
+    two_pages(200000);
+    sweep_by_hand(2499, 2499);
+    two_pages(200000);
+    sweep_by_hand(60000, 4294967296u);
+    two_pages(200000);
+    sweep_by_hand(0, 0);
+    two_pages(200000);
+    memset(&zeroed, 0, sizeof zeroed);
+    printf("zeroed settings\n");
+    sweep_by(zeroed, 0);
+
+    printf("by 60,000\n");
+    pairs_keep_2500();
+    show("discovery expiry 2,500", tamburelvi_receiver_set_discovery_expiry(r, 2500));
+    pairs_keep_2500();
+}
+
 static bool same_header(tamburelvi_header a, tamburelvi_header b) {
     return a.data_pairs == b.data_pairs && a.data_sources == b.data_sources && a.data_oldest == b.data_oldest &&
         a.sync_pairs == b.sync_pairs && a.sync_sources == b.sync_sources && a.sync_oldest == b.sync_oldest &&
@@ -482,10 +659,7 @@ static tamburelvi_header discovered_as(tamburelvi_header h, tamburelvi_header ot
 
 /* A listed source and a partial one, pairs in both tables, and data that waits. */
 static void settle(uint64_t reading) {
-    memcpy(name, "desk", 4);
-    show("A, page 0 of 0", take_page(reading, page(0x30, 0, 0, 4, 2)));
-    memcpy(name, "rack", 4);
-    show("B, page 1 of 1", take_page(reading, page(0x40, 1, 1, 4, 1)));
+    two_pages(reading);
     show("A, sequence 5", take(reading, data(0x30, 1, 0, 5, 2)));
     show("synchronisation of A, sequence 5", take_sync(reading, 0x30, 7, 5, sizeof out));
     show("B under 7", take(reading, data(0x40, 7, 7, 9, 2)));
@@ -654,7 +828,8 @@ static void library(void) {
         tamburelvi_poll(h, &m->data_pairs, &m->data_sources, &m->sync_pairs, &m->sync_sources, &m->rows, m->store,
             TAMBURELVI_STORE - 1, s, 0).answer);
     show("remove_expired_sources, pages short",
-        tamburelvi_remove_expired_sources(h, &m->sources, &m->names, &m->pages, m->universes, TAMBURELVI_UNIVERSES - 1, 0).answer);
+        tamburelvi_remove_expired_sources(h, &m->sources, &m->names, &m->pages, m->universes, TAMBURELVI_UNIVERSES - 1, s,
+            0).answer);
     show("clear_waiting_data, store short",
         tamburelvi_clear_waiting_data(h, &m->rows, m->store, TAMBURELVI_STORE - 1, 1).answer);
     h = tamburelvi_mute_universe(h, &m->heard, 1).header;
@@ -771,6 +946,8 @@ int main(void) {
     timeouts();
     printf("-- discovery\n");
     discovery();
+    printf("-- discovery expiry\n");
+    discovery_expiry();
     printf("-- resets\n");
     resets();
     printf("-- full tables\n");

@@ -19,9 +19,10 @@
  * with tamburelvi_records_next, which read a release. A name with `tamburelvi_inner_` is not for use.
  *
  * What a call sees, it answers by number (enum tamburelvi_number): parts that are too long (1), illegal universes (2), muting
- * what is not listened to (3), a limit of 0 (14), lent memory that is too short (15). A `tamburelvi_receiver_CALL`
- * also sees a null pointer (255), a receiver that was not started (254), and values, names, lists or output that overlap one
- * another or the receiver (253); it then changes nothing, and a read-out says that there is no such entry.
+ * what is not listened to (3), a limit of 0 (14), lent memory that is too short (15), a discovery expiry out of range (20). A
+ * `tamburelvi_receiver_CALL` also sees a null pointer (255), a receiver that was not started (254), and values, names, lists or
+ * output that overlap one another or the receiver (253); it then changes nothing, and a read-out says that there is no such
+ * entry.
  *
  * What no call sees is the caller's to keep. The proofs hold for callers who do:
  *
@@ -79,7 +80,7 @@ extern "C" {
 #define TAMBURELVI_CID 16
 
 /**
- * @brief What stopped a call. 17 to 20 and 22 to 252 are the library's too and not used yet; 16 was given up and is not used again;
+ * @brief What stopped a call. 17 to 19 and 22 to 252 are the library's too and not used yet; 16 was given up and is not used again;
  * 253 to 255 are this header's.
  *
  * In parentheses: the values that an answer of this number has, by enum tamburelvi_kind.
@@ -105,6 +106,7 @@ enum tamburelvi_number {
     TAMBURELVI_PAGES_FULL = 13,             /**< 64 pages held. (None.) */
     TAMBURELVI_LIMIT_ZERO = 14,             /**< A source limit of 0. (None.) */
     TAMBURELVI_TOO_SHORT = 15,              /**< Lent memory is too short. (One: the bytes needed.) */
+    TAMBURELVI_EXPIRY_OUT_OF_RANGE = 20,    /**< A discovery expiry under 2,500 or over 60,000. (None.) */
     TAMBURELVI_REPEATED = 21,               /**< The last sequence number again: a difference of 0. (Sequence.) */
     TAMBURELVI_OVERLAP = 253,               /**< This header's: memories of the call overlap; it was not made. (None.) */
     TAMBURELVI_NOT_STARTED = 254,           /**< This header's: no tamburelvi_receiver_new; the call was not made. (None.) */
@@ -152,7 +154,13 @@ typedef struct tamburelvi_header {
     bool sync_tidy;
 } tamburelvi_header;
 
-/** @brief Settings. Every value has a meaning: merge is by enum tamburelvi_merge, a source limit of 0 is none. */
+/**
+ * @brief Settings. Every value has a meaning: merge is by enum tamburelvi_merge, a source limit of 0 is none, and the discovery
+ * expiry, in milliseconds, is taken as it stands.
+ *
+ * Begin with tamburelvi_fresh_settings. A zeroed struct is not the fresh one: its discovery_expiry is 0, and by that every
+ * discovery sweep drops every source, partial and listed.
+ */
 typedef struct tamburelvi_settings {
     bool process_preview_data;
     bool announce_source_discovery;
@@ -160,6 +168,7 @@ typedef struct tamburelvi_settings {
     bool announce_timeout;
     uint8_t merge;
     uint16_t source_limit;
+    uint32_t discovery_expiry;
 } tamburelvi_settings;
 
 /** @brief A data packet but for its values. The CID is two words: tamburelvi_cid_hi, tamburelvi_cid_lo. */
@@ -208,11 +217,11 @@ typedef struct tamburelvi_reply {
     tamburelvi_answer answer;
 } tamburelvi_reply;
 
-/** @brief What setting the limit leaves and answers: 0 or 14. */
-typedef struct tamburelvi_limited {
+/** @brief What a setter that can refuse leaves and answers: 0, or 14 of the limit and 20 of the discovery expiry. */
+typedef struct tamburelvi_adjusted {
     tamburelvi_settings settings;
     uint8_t number;
-} tamburelvi_limited;
+} tamburelvi_adjusted;
 
 /** @brief A pair that a table holds; in the synchronisation table the universe is the address. */
 typedef struct tamburelvi_pair_read {
@@ -334,13 +343,14 @@ TAMBURELVI_AT(tamburelvi_header, page_universes, TAMBURELVI_BY_WIDTH(80, 48));
 TAMBURELVI_AT(tamburelvi_header, data_tidy, TAMBURELVI_BY_WIDTH(88, 52));
 TAMBURELVI_AT(tamburelvi_header, sync_tidy, TAMBURELVI_BY_WIDTH(89, 53));
 
-TAMBURELVI_SIZE(tamburelvi_settings, 8);
+TAMBURELVI_SIZE(tamburelvi_settings, 12);
 TAMBURELVI_AT(tamburelvi_settings, process_preview_data, 0);
 TAMBURELVI_AT(tamburelvi_settings, announce_source_discovery, 1);
 TAMBURELVI_AT(tamburelvi_settings, announce_stream_termination, 2);
 TAMBURELVI_AT(tamburelvi_settings, announce_timeout, 3);
 TAMBURELVI_AT(tamburelvi_settings, merge, 4);
 TAMBURELVI_AT(tamburelvi_settings, source_limit, 6);
+TAMBURELVI_AT(tamburelvi_settings, discovery_expiry, 8);
 
 TAMBURELVI_SIZE(tamburelvi_data, 32);
 TAMBURELVI_AT(tamburelvi_data, hi, 0);
@@ -378,9 +388,9 @@ TAMBURELVI_SIZE(tamburelvi_reply, TAMBURELVI_BY_WIDTH(136, 88));
 TAMBURELVI_AT(tamburelvi_reply, header, 0);
 TAMBURELVI_AT(tamburelvi_reply, answer, TAMBURELVI_BY_WIDTH(96, 56));
 
-TAMBURELVI_SIZE(tamburelvi_limited, 10);
-TAMBURELVI_AT(tamburelvi_limited, settings, 0);
-TAMBURELVI_AT(tamburelvi_limited, number, 8);
+TAMBURELVI_SIZE(tamburelvi_adjusted, 16);
+TAMBURELVI_AT(tamburelvi_adjusted, settings, 0);
+TAMBURELVI_AT(tamburelvi_adjusted, number, 12);
 
 TAMBURELVI_SIZE(tamburelvi_pair_read, 32);
 TAMBURELVI_AT(tamburelvi_pair_read, hi, 0);
@@ -547,7 +557,8 @@ tamburelvi_reply tamburelvi_handle_universe_discovery_packet(tamburelvi_header h
     size_t name_length, const uint16_t *list, size_t list_length, const uint8_t *out, size_t out_length);
 
 /**
- * @brief The poll, with which every step begins: expired pairs and waiting data go.
+ * @brief The poll, with which every step begins: pairs and waiting data of age 2,500 milliseconds or more go. With timeouts
+ * announced at most one pair goes, with 4, and what comes after it is not swept.
  * @param header The receiver's header.
  * @param data_pairs Its data pairs.
  * @param data_sources Its data sources.
@@ -565,18 +576,23 @@ tamburelvi_reply tamburelvi_poll(tamburelvi_header header, tamburelvi_pair_rows 
     size_t store_length, tamburelvi_settings settings, uint64_t reading);
 
 /**
- * @brief The discovery sweep: discovered sources of age 2,500 milliseconds or more go. No step does this.
+ * @brief The discovery sweep: discovered sources, partial and listed, of the age of the discovery expiry or more go. No step
+ * and no poll does this.
+ *
+ * It goes by the discovery expiry of these settings, whatever it is, and never gives 20: by 0 every source goes.
  * @param header The receiver's header.
  * @param sources Its discovered sources.
  * @param names Their names.
  * @param pages Their pages.
  * @param universes Its page universes.
  * @param universes_length How many, TAMBURELVI_UNIVERSES or more.
+ * @param settings The settings.
  * @param reading Now, in milliseconds.
  * @return 0 or 15.
  */
 tamburelvi_reply tamburelvi_remove_expired_sources(tamburelvi_header header, tamburelvi_head_rows *sources,
-    tamburelvi_name_rows *names, tamburelvi_page_rows *pages, uint16_t *universes, size_t universes_length, uint64_t reading);
+    tamburelvi_name_rows *names, tamburelvi_page_rows *pages, uint16_t *universes, size_t universes_length,
+    tamburelvi_settings settings, uint64_t reading);
 
 /**
  * @brief Listens to all universes of the list, or to none.
@@ -655,8 +671,8 @@ tamburelvi_header tamburelvi_reset_discovery(tamburelvi_header header);
 tamburelvi_header tamburelvi_reset_sources(tamburelvi_header header);
 
 /**
- * @brief The fresh settings.
- * @return Preview and announcements off, merging by priority, no source limit.
+ * @brief The fresh settings, to begin with.
+ * @return Preview and announcements off, merging by priority, no source limit, a discovery expiry of 20,000 milliseconds.
  */
 tamburelvi_settings tamburelvi_fresh_settings(void);
 
@@ -713,7 +729,20 @@ tamburelvi_settings tamburelvi_clear_source_limit(tamburelvi_settings settings);
  * @param limit 1 to 65,535.
  * @return The settings after and 0; for a limit of 0, the settings as they were and 14.
  */
-tamburelvi_limited tamburelvi_set_source_limit(tamburelvi_settings settings, uint16_t limit);
+tamburelvi_adjusted tamburelvi_set_source_limit(tamburelvi_settings settings, uint16_t limit);
+
+/**
+ * @brief At which age the discovery sweep drops a source, partial or listed.
+ *
+ * E1.31 has sources announce themselves every 10 seconds: by the fresh 20,000 one announcement may be lost, if the next comes
+ * before the last one heard is 20,000 old; by 10,000 or less a source can go between any two. The longer the expiry, the
+ * longer sources that are gone or stay partial hold pages, of which there are 64 (13). Pairs and waiting data expire at
+ * 2,500, whatever is set here.
+ * @param settings The settings before.
+ * @param expiry 2,500 to 60,000 milliseconds.
+ * @return The settings after and 0; for any other expiry, the settings as they were, field by field, and 20.
+ */
+tamburelvi_adjusted tamburelvi_set_discovery_expiry(tamburelvi_settings settings, uint32_t expiry);
 
 /**
  * @brief The pair at a place of the data table, by ascending CID, then universe.
@@ -827,6 +856,7 @@ static inline const char *tamburelvi_number_text(unsigned number) {
     case TAMBURELVI_PAGES_FULL: return "64 pages are held";
     case TAMBURELVI_LIMIT_ZERO: return "a source limit of 0";
     case TAMBURELVI_TOO_SHORT: return "lent memory is too short";
+    case TAMBURELVI_EXPIRY_OUT_OF_RANGE: return "a discovery expiry under 2,500 or over 60,000";
     case TAMBURELVI_REPEATED: return "the sequence number is a repeat of the last one";
     case TAMBURELVI_OVERLAP: return "memories of the call overlap";
     case TAMBURELVI_NOT_STARTED: return "the receiver was not started";
@@ -1224,7 +1254,8 @@ static inline tamburelvi_answer tamburelvi_receiver_handle_universe_discovery_pa
 }
 
 /**
- * @brief The poll, with which every step begins: expired pairs and waiting data go.
+ * @brief The poll, with which every step begins: pairs and waiting data of age 2,500 milliseconds or more go. With timeouts
+ * announced at most one pair goes, with 4, and what comes after it is not swept.
  * @param receiver The receiver.
  * @param reading Now, in milliseconds.
  * @return 0, 4, 254 or 255.
@@ -1240,7 +1271,8 @@ static inline tamburelvi_answer tamburelvi_receiver_poll(tamburelvi_receiver *re
 }
 
 /**
- * @brief The discovery sweep: discovered sources of age 2,500 milliseconds or more go. No step does this.
+ * @brief The discovery sweep: discovered sources, partial and listed, of the age of the discovery expiry or more go. No step
+ * and no poll does this.
  * @param receiver The receiver.
  * @param reading Now, in milliseconds.
  * @return 0, 254 or 255.
@@ -1251,8 +1283,8 @@ static inline tamburelvi_answer tamburelvi_receiver_remove_expired_sources(tambu
     if (fault) return tamburelvi_inner_bare(fault);
     m = &receiver->memory;
     return tamburelvi_inner_kept(receiver,
-        tamburelvi_remove_expired_sources(
-            receiver->header, &m->sources, &m->names, &m->pages, m->universes, TAMBURELVI_UNIVERSES, reading));
+        tamburelvi_remove_expired_sources(receiver->header, &m->sources, &m->names, &m->pages, m->universes,
+            TAMBURELVI_UNIVERSES, receiver->settings, reading));
 }
 
 /**
@@ -1362,7 +1394,8 @@ static inline tamburelvi_answer tamburelvi_receiver_reset_sources(tamburelvi_rec
 }
 
 /**
- * @brief The fresh settings again: preview and announcements off, merging by priority, no source limit.
+ * @brief The fresh settings again: preview and announcements off, merging by priority, no source limit, a discovery expiry of
+ * 20,000 milliseconds.
  * @param receiver The receiver.
  * @return 0, 254 or 255.
  */
@@ -1450,12 +1483,32 @@ static inline tamburelvi_answer tamburelvi_receiver_clear_source_limit(tamburelv
  * @return 0; 14 for a limit of 0, which changes nothing; 254 or 255.
  */
 static inline tamburelvi_answer tamburelvi_receiver_set_source_limit(tamburelvi_receiver *receiver, uint16_t limit) {
-    tamburelvi_limited limited;
+    tamburelvi_adjusted adjusted;
     uint8_t fault = tamburelvi_inner_fault(receiver);
     if (fault) return tamburelvi_inner_bare(fault);
-    limited = tamburelvi_set_source_limit(receiver->settings, limit);
-    receiver->settings = limited.settings;
-    return tamburelvi_inner_bare(limited.number);
+    adjusted = tamburelvi_set_source_limit(receiver->settings, limit);
+    receiver->settings = adjusted.settings;
+    return tamburelvi_inner_bare(adjusted.number);
+}
+
+/**
+ * @brief At which age the discovery sweep drops a source, partial or listed.
+ *
+ * E1.31 has sources announce themselves every 10 seconds: by the fresh 20,000 one announcement may be lost, if the next comes
+ * before the last one heard is 20,000 old; by 10,000 or less a source can go between any two. The longer the expiry, the
+ * longer sources that are gone or stay partial hold pages, of which there are 64 (13). Pairs and waiting data expire at
+ * 2,500, whatever is set here.
+ * @param receiver The receiver.
+ * @param expiry 2,500 to 60,000 milliseconds.
+ * @return 0; 20 for any other expiry, which changes nothing; 254 or 255.
+ */
+static inline tamburelvi_answer tamburelvi_receiver_set_discovery_expiry(tamburelvi_receiver *receiver, uint32_t expiry) {
+    tamburelvi_adjusted adjusted;
+    uint8_t fault = tamburelvi_inner_fault(receiver);
+    if (fault) return tamburelvi_inner_bare(fault);
+    adjusted = tamburelvi_set_discovery_expiry(receiver->settings, expiry);
+    receiver->settings = adjusted.settings;
+    return tamburelvi_inner_bare(adjusted.number);
 }
 
 /* ---- Read-outs: places from 0; each says whether there was such an entry, and writes nothing where there was none. ---- */

@@ -63,7 +63,7 @@ int edges(void) {
         is_15("discovery, store", tamburelvi_handle_universe_discovery_packet(TABLES, store - n, &t.heard, &t.sources, &t.names, &t.pages, t.universes, pool, s, 0, g, values, 4, one, 1, out, room), store);
         is_15("discovery, universes", tamburelvi_handle_universe_discovery_packet(TABLES, store, &t.heard, &t.sources, &t.names, &t.pages, t.universes, pool - n, s, 0, g, values, 4, one, 1, out, room), 2 * pool);
         is_15("poll, store", tamburelvi_poll(TABLES, store - n, s, 0), store);
-        is_15("sweep, universes", tamburelvi_remove_expired_sources(h, &t.sources, &t.names, &t.pages, t.universes, pool - n, 0), 2 * pool);
+        is_15("sweep, universes", tamburelvi_remove_expired_sources(h, &t.sources, &t.names, &t.pages, t.universes, pool - n, s, 0), 2 * pool);
         is_15("clear, store", tamburelvi_clear_waiting_data(h, &t.rows, t.store, store - n, 1), store);
     }
     printf("%d calls with a length that is too short, %d not 15\n", tried, wrong);

@@ -1,6 +1,6 @@
 /* lockstep CALLS [SEED]: the proved library and the portable one (its symbols renamed to portable_..) side by side on random calls. After every call the
- * answers, the headers, all lent memory and the output are compared. Status 1 at the first difference, and where a number of 0 to 15 or 21
- * was not reached, another was given or a function was not called.
+ * answers, the headers, all lent memory and the output are compared. Status 1 at the first difference, and where a number of 0 to 15, 20 or
+ * 21 was not reached, another was given or a function was not called.
  * With -DTRACE one library alone gets the calls, and a sum of all answers and headers, and of all lent memory and output after every 64th call, is
  * printed: for two machines that cannot run one program. */
 #include "tamburelvi.h"
@@ -13,7 +13,7 @@
     F(new) F(handle_data_packet) F(handle_sync_packet) F(handle_universe_discovery_packet) F(poll) F(remove_expired_sources) F(listen_universes) \
     F(mute_universe) F(is_listening) F(clear_waiting_data) F(clear_all_waiting_data) F(reset_pairs) F(reset_discovery) F(reset_sources) F(fresh_settings) \
     F(set_process_preview_data) F(set_announce_source_discovery) F(set_announce_stream_termination) F(set_announce_timeout) F(set_merge) \
-    F(clear_source_limit) F(set_source_limit) \
+    F(clear_source_limit) F(set_source_limit) F(set_discovery_expiry) \
     F(data_pair) F(sync_pair) F(data_source) F(sync_source) F(listened) F(waiting) F(waiting_values) F(source_at) F(page_at)
 #ifdef TRACE
 #define OTHER(f) tamburelvi_##f
@@ -44,7 +44,7 @@ static uint64_t below(uint64_t n) {
 static bool one_in(uint64_t n) { return below(n) == 0; }
 
 /* Whether random calls bring the number about. 16 is not used. */
-static bool given(int number) { return number < 16 || number == 21; }
+static bool given(int number) { return number < 16 || number == 20 || number == 21; }
 
 static void differ(const char *what) {
     printf("DIFFERENT: %s, call %lu\n", what, calls);
@@ -81,7 +81,7 @@ static void same_memory(void) {
 }
 static void same_settings(tamburelvi_settings p, tamburelvi_settings q) {
     SAME(p, q, process_preview_data); SAME(p, q, announce_source_discovery); SAME(p, q, announce_stream_termination); SAME(p, q, announce_timeout);
-    SAME(p, q, merge); SAME(p, q, source_limit);
+    SAME(p, q, merge); SAME(p, q, source_limit); SAME(p, q, discovery_expiry);
 }
 static void same_reply(tamburelvi_reply p, tamburelvi_reply q) {
     a.header = p.header, b.header = q.header;
@@ -97,14 +97,22 @@ static void same_reply(tamburelvi_reply p, tamburelvi_reply q) {
         x = &b, t = &x->memory, out = out_b; tamburelvi_reply q_ = OTHER(f)(x->header, __VA_ARGS__); (void)out; same_reply(p_, q_); } while (0)
 #define HEADER(f) do { COUNT(f); a.header = tamburelvi_##f(a.header), b.header = OTHER(f)(b.header); } while (0)
 #define SETTINGS(f, ...) do { COUNT(f); tamburelvi_settings p_ = tamburelvi_##f(__VA_ARGS__), q_ = OTHER(f)(__VA_ARGS__); same_settings(p_, q_); s = p_; } while (0)
+#define ADJUSTED(f, ...) do { COUNT(f); tamburelvi_adjusted p_ = tamburelvi_##f(__VA_ARGS__), q_ = OTHER(f)(__VA_ARGS__); same_settings(p_.settings, q_.settings); \
+        SAME(p_, q_, number); reached[p_.number]++, s = p_.settings; } while (0)
 #define READ(f, type, ...) COUNT(f); tamburelvi_memory *t = &a.memory; type p = tamburelvi_##f(a.header, __VA_ARGS__); t = &b.memory; type q = OTHER(f)(b.header, __VA_ARGS__)
 #define TABLES &t->data_pairs, &t->data_sources, &t->sync_pairs, &t->sync_sources, &t->rows, t->store, store
 
 static tamburelvi_settings s;
 
+/* The ends of the range, the numbers next to them, others within, the ends of 32 bits. */
+static uint32_t expiry(void) {
+    static const uint32_t some[] = {0, 2499, 2500, 20000, 60000, 60001, UINT32_MAX};
+    return one_in(4) ? 2500 + (uint32_t)below(57501) : some[below(7)];
+}
+
 static void settings(void) {
     bool on = below(2);
-    switch (below(8)) {
+    switch (below(9)) {
     case 0: SETTINGS(set_process_preview_data, s, on); break;
     case 1: SETTINGS(set_announce_source_discovery, s, on); break;
     case 2: SETTINGS(set_announce_stream_termination, s, on); break;
@@ -112,14 +120,8 @@ static void settings(void) {
     case 4: { uint8_t m = on ? (uint8_t)below(256) : 0; SETTINGS(set_merge, s, m); break; }
     case 5: SETTINGS(clear_source_limit, s); break;
     case 6: if (one_in(8)) SETTINGS(fresh_settings, ); break;
-    case 7: {
-        uint16_t limit = (uint16_t)(one_in(4) ? 0 : one_in(2) ? below(40) : below(65536));
-        COUNT(set_source_limit);
-        tamburelvi_limited p = tamburelvi_set_source_limit(s, limit), q = OTHER(set_source_limit)(s, limit);
-        same_settings(p.settings, q.settings);
-        SAME(p, q, number);
-        reached[p.number]++, s = p.settings;
-    }
+    case 7: { uint16_t limit = (uint16_t)(one_in(4) ? 0 : one_in(2) ? below(40) : below(65536)); ADJUSTED(set_source_limit, s, limit); break; }
+    case 8: { uint32_t e = expiry(); ADJUSTED(set_discovery_expiry, s, e); break; }
     }
 }
 
@@ -161,7 +163,10 @@ int main(int argc, char **argv) {
         for (size_t i = 0; i < first; i++) list[i] = (uint16_t)(i + 1);
         REPLY(listen_universes, &t->heard, list, first);
         for (uint64_t n = 300 + below(6000); n && calls < wanted; n--) {
-            if (one_in(slow)) now += one_in(3) ? below(40) : 2400 + below(200);
+            if (one_in(slow)) {
+                uint64_t jump = (uint64_t[]){2400, 2400, 2400, 19900, 59900}[below(5)];
+                now += one_in(3) ? below(40) : jump + below(200);
+            }
             if (one_in(10)) now += below(3);
             if (one_in(50)) now -= below(5);
             uint64_t c = below(sources), hi = c / 7 * 0x0123456789ABCDEFu, lo = c;
@@ -201,7 +206,13 @@ int main(int argc, char **argv) {
             case 4:
                 switch (below(10)) {
                 case 0: REPLY(poll, TABLES, s, now); break;
-                case 1: REPLY(remove_expired_sources, &t->sources, &t->names, &t->pages, t->universes, pool, now); break;
+                case 1: {
+                    /* By the settings, or with an expiry in them that the setter need not take. */
+                    tamburelvi_settings w = s;
+                    if (one_in(3)) w.discovery_expiry = expiry();
+                    REPLY(remove_expired_sources, &t->sources, &t->names, &t->pages, t->universes, pool, w, now);
+                    break;
+                }
                 case 2: {
                     size_t count = below(20);
                     for (size_t i = 0; i < count; i++) list[i] = (uint16_t)(one_in(9) ? below(65536) : 1 + below(2000));

@@ -127,6 +127,11 @@ static void reply(tamburelvi_reply r) {
 
 static void said(uint64_t n) { put_number(n), putchar('\n'); }
 
+static void adjusted(tamburelvi_adjusted a) {
+    s = a.settings;
+    said(a.number);
+}
+
 static void dump_pairs(char mark, bool sync) {
     size_t n = sync ? h.sync_pairs : h.data_pairs, m = sync ? h.sync_sources : h.data_sources;
     for (size_t i = 0; i < n; i++) {
@@ -242,9 +247,10 @@ static bool command(int n) {
     else if (!strcmp(w, "merge") && !strcmp(field[1], "highest")) s = tamburelvi_set_merge(s, 1);
     else if (!strcmp(w, "limit") && !strcmp(field[1], "none")) s = tamburelvi_clear_source_limit(s);
     else if (!strcmp(w, "limit") && number(field[1], 65535, &v)) {
-        tamburelvi_limited l = tamburelvi_set_source_limit(s, (uint16_t)v);
-        s = l.settings;
-        said(l.number);
+        adjusted(tamburelvi_set_source_limit(s, (uint16_t)v));
+        return true;
+    } else if (!strcmp(w, "expiry") && number(field[1], UINT32_MAX, &v)) {
+        adjusted(tamburelvi_set_discovery_expiry(s, (uint32_t)v));
         return true;
     } else if (!strcmp(w, "listen") && read_list(field[1], &count)) {
         reply(tamburelvi_listen_universes(h, &t.heard, numbers, count));
@@ -253,7 +259,7 @@ static bool command(int n) {
         reply(tamburelvi_poll(TABLES, s, v));
         return true;
     } else if (!strcmp(w, "sweep") && number(field[1], UINT64_MAX, &v)) {
-        reply(tamburelvi_remove_expired_sources(h, &t.sources, &t.names, &t.pages, t.universes, TAMBURELVI_UNIVERSES, v));
+        reply(tamburelvi_remove_expired_sources(h, &t.sources, &t.names, &t.pages, t.universes, TAMBURELVI_UNIVERSES, s, v));
         return true;
     } else if (number(field[1], 65535, &v)) {
         if (!strcmp(w, "mute")) reply(tamburelvi_mute_universe(h, &t.heard, (uint16_t)v));

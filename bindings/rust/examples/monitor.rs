@@ -157,9 +157,12 @@ fn main() -> Result<(), Box<dyn Error>> {
         let universes: Vec<u16> = source.pages().flat_map(|p| p.universes).copied().collect();
         println!("  {name} ({:#}): universes {universes:?}", source.cid);
     }
-    receiver.remove_expired_sources(now);
-    let left = receiver.listed_sources().count();
-    println!("  after the sweep: {left}");
+    // Sources announce themselves every 10 seconds. These two no longer do, and go at the age of the discovery expiry, fresh 20 seconds.
+    for now in [now, 20_000, 20_070] {
+        receiver.remove_expired_sources(now);
+        let left = receiver.listed_sources().count();
+        println!("  after the discovery sweep at {now} ms: {left}");
+    }
     let listened: Vec<u16> = receiver.listened_universes().collect();
     println!("Listened to: {listened:?}");
     Ok(())

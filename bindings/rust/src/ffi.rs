@@ -28,6 +28,7 @@ pub struct Settings {
     pub announce_timeout: bool,
     pub merge: u8,
     pub source_limit: u16,
+    pub discovery_expiry: u32,
 }
 
 #[derive(Clone, Copy)]
@@ -94,7 +95,7 @@ pub struct Reply {
 }
 
 #[repr(C)]
-pub struct Limited {
+pub struct Adjusted {
     pub settings: Settings,
     pub number: u8,
 }
@@ -162,13 +163,13 @@ pub type Pages = [[u64; 5]; 64];
 const _: () = {
     assert!(size_of::<usize>() == 8);
     assert!(size_of::<Header>() == 96 && align_of::<Header>() == 8);
-    assert!(size_of::<Settings>() == 8 && align_of::<Settings>() == 2);
+    assert!(size_of::<Settings>() == 12 && align_of::<Settings>() == 4);
     assert!(size_of::<Data>() == 32 && align_of::<Data>() == 8);
     assert!(size_of::<Sync>() == 24 && align_of::<Sync>() == 8);
     assert!(size_of::<Page>() == 24 && align_of::<Page>() == 8);
     assert!(size_of::<Answer>() == 40 && align_of::<Answer>() == 8);
     assert!(size_of::<Reply>() == 136 && align_of::<Reply>() == 8);
-    assert!(size_of::<Limited>() == 10 && align_of::<Limited>() == 2);
+    assert!(size_of::<Adjusted>() == 16 && align_of::<Adjusted>() == 4);
     assert!(size_of::<PairRead>() == 32 && align_of::<PairRead>() == 8);
     assert!(size_of::<CidRead>() == 16 && align_of::<CidRead>() == 8);
     assert!(size_of::<DmxRead>() == 32 && align_of::<DmxRead>() == 8);
@@ -275,6 +276,7 @@ unsafe extern "C" {
         pages: &mut Pages,
         universes: *mut u16,
         universes_length: usize,
+        settings: Settings,
         reading: u64,
     ) -> Reply;
 
@@ -326,7 +328,9 @@ unsafe extern "C" {
 
     pub safe fn tamburelvi_clear_source_limit(settings: Settings) -> Settings;
 
-    pub safe fn tamburelvi_set_source_limit(settings: Settings, limit: u16) -> Limited;
+    pub safe fn tamburelvi_set_source_limit(settings: Settings, limit: u16) -> Adjusted;
+
+    pub safe fn tamburelvi_set_discovery_expiry(settings: Settings, expiry: u32) -> Adjusted;
 
     pub safe fn tamburelvi_data_pair(header: Header, data_pairs: &Pairs, at: usize) -> PairRead;
 

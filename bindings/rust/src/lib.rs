@@ -39,8 +39,9 @@
 //! Beside the steps:
 //!
 //! - Call [`Receiver::poll`] where no packet comes, so that silent sources time out; with timeouts announced, until it gives no more 4.
-//! - Call [`Receiver::remove_expired_sources`] every 5 seconds where discovery packets are handed in: nothing else removes sources that are gone. It also
-//!   drops listed sources 2,500 ms after their last page, though they announce every 10 seconds: a monitor copies a source out at each 9 and keeps its own list.
+//! - Call [`Receiver::remove_expired_sources`] every 5 seconds where discovery packets are handed in: nothing else removes sources that are gone. Sources
+//!   announce themselves every 10 seconds, and one goes when the page that came last is as old as [`Receiver::discovery_expiry`], fresh 20 seconds: one
+//!   announcement may be lost, if the next comes before that.
 //! - Call [`Receiver::reset_pairs`] where an operator has restarted a desk: its numbering begins anew, and by the old one its first packets may be refused
 //!   (7, 21).
 //!

@@ -47,7 +47,8 @@ fn done(answer: &ffi::Answer, name: Option<&[u8]>) -> Result<(), Stop> {
 
 /// A receiver, and its steps.
 impl Receiver {
-    /// A fresh receiver: no pairs, waiting data or pages; 64214 alone is listened to; preview and announcements off, merging by priority, no source limit.
+    /// A fresh receiver: no pairs, waiting data or pages; 64214 alone is listened to; preview and announcements off, merging by priority, no source limit, a
+    /// discovery expiry of 20,000 milliseconds.
     pub fn new() -> Receiver {
         Receiver {
             state: State::new(),
@@ -146,7 +147,7 @@ impl Receiver {
 
 /// Further calls.
 impl Receiver {
-    /// The sweeps that every step begins with: pairs, then waiting data, of age 2,500 milliseconds or more go.
+    /// The sweeps that every step begins with: pairs, then waiting data, of age 2,500 milliseconds or more go, whatever the discovery expiry is.
     ///
     /// # Errors
     ///
@@ -156,9 +157,10 @@ impl Receiver {
         done(&self.state.poll(self.settings, reading), None)
     }
 
-    /// The discovery sweep: discovered sources of age 2,500 milliseconds or more go. No step and no poll makes it.
+    /// The discovery sweep: discovered sources, partial and listed, of the age of the [`discovery_expiry`](Receiver::discovery_expiry) or more go. No step and
+    /// no poll makes it.
     pub fn remove_expired_sources(&mut self, reading: u64) {
-        let answer = self.state.remove_expired_sources(reading);
+        let answer = self.state.remove_expired_sources(self.settings, reading);
         match (answer.number, answer.values) {
             (0, ffi::NONE) => {}
             (number, kind) => unknown(number, kind),
@@ -300,11 +302,35 @@ impl Receiver {
             self.settings = ffi::tamburelvi_clear_source_limit(self.settings);
             return Ok(());
         };
-        let limited = ffi::tamburelvi_set_source_limit(self.settings, limit);
-        self.settings = limited.settings;
-        match limited.number {
+        let adjusted = ffi::tamburelvi_set_source_limit(self.settings, limit);
+        self.settings = adjusted.settings;
+        match adjusted.number {
             0 => Ok(()),
             14 => Err(Stop::LimitZero),
+            number => unknown(number, ffi::NONE),
+        }
+    }
+
+    /// At which age, in milliseconds, the discovery sweep drops a source. Fresh: 20,000.
+    pub fn discovery_expiry(&self) -> u32 {
+        self.settings.discovery_expiry
+    }
+
+    /// Chooses at which age [`remove_expired_sources`](Receiver::remove_expired_sources) drops a source, partial or listed: 2,500 to 60,000 milliseconds.
+    ///
+    /// E1.31 has sources announce themselves every 10 seconds: by the fresh 20,000 one announcement may be lost, if the next comes before the last one heard is
+    /// 20,000 old; by 10,000 or less a source can go between any two. The longer the expiry, the longer sources that are gone or stay partial hold pages, of
+    /// which there are 64 (13). Pairs and waiting data expire at 2,500, whatever is set here.
+    ///
+    /// # Errors
+    ///
+    /// 20 for an expiry under 2,500 or over 60,000, which changes nothing.
+    pub fn set_discovery_expiry(&mut self, expiry: u32) -> Result<(), Stop> {
+        let adjusted = ffi::tamburelvi_set_discovery_expiry(self.settings, expiry);
+        self.settings = adjusted.settings;
+        match adjusted.number {
+            0 => Ok(()),
+            20 => Err(Stop::ExpiryOutOfRange),
             number => unknown(number, ffi::NONE),
         }
     }
@@ -356,6 +382,7 @@ impl fmt::Debug for Receiver {
             .field("announce_timeout", &self.announce_timeout())
             .field("merge", &self.merge())
             .field("source_limit", &self.source_limit())
+            .field("discovery_expiry", &self.discovery_expiry())
             .finish_non_exhaustive()
     }
 }

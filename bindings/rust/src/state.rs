@@ -250,7 +250,7 @@ impl State {
         self.kept(reply)
     }
 
-    pub fn remove_expired_sources(&mut self, reading: u64) -> ffi::Answer {
+    pub fn remove_expired_sources(&mut self, settings: ffi::Settings, reading: u64) -> ffi::Answer {
         let m = &mut *self.memory;
         // SAFETY: duties 1 to 5, above; UNIVERSES is the length of the array before it.
         let reply = unsafe {
@@ -261,6 +261,7 @@ impl State {
                 &mut m.pages,
                 m.universes.as_mut_ptr(),
                 UNIVERSES,
+                settings,
                 reading,
             )
         };

@@ -3,7 +3,7 @@
 use crate::{Cid, ffi};
 use core::fmt::{self, Write as _};
 
-/// What stops a call, with the values that go with it: the numbers 1 to 15 and 21 of the receiver's table.
+/// What stops a call, with the values that go with it: the numbers 1 to 15, 20 and 21 of the receiver's table.
 ///
 /// A stop is an answer, not a fault of the receiver, which goes on with the next call. 4, 5 and 9 are announcements that were asked for. A node with two
 /// network ports hears each packet twice: 21 is then no fault and need not be logged, 7 is one. Shown, a stop is a sentence that ends in its number.
@@ -62,6 +62,8 @@ pub enum Stop {
     LimitZero,
     /// 15: lent memory is too short; the bytes needed. This crate lends enough, so no call gives it.
     TooShort(usize),
+    /// 20: a discovery expiry under 2,500 or over 60,000 milliseconds. Nothing changed.
+    ExpiryOutOfRange,
     /// 21: the last sequence number again. The packet was not taken, and nothing changed but what the poll swept. A repeat renews neither the sequence number
     /// nor the reading, so a source that only repeats itself expires.
     Repeated {
@@ -93,6 +95,7 @@ impl Stop {
             Stop::PagesFull => 13,
             Stop::LimitZero => 14,
             Stop::TooShort(_) => 15,
+            Stop::ExpiryOutOfRange => 20,
             Stop::Repeated { .. } => 21,
         }
     }
@@ -128,6 +131,9 @@ impl fmt::Display for Stop {
             Stop::PagesFull => write!(f, "the discovered sources are full: 64 pages"),
             Stop::LimitZero => write!(f, "the source limit cannot be 0"),
             Stop::TooShort(n) => write!(f, "the lent memory is too short: {n} bytes are needed"),
+            Stop::ExpiryOutOfRange => {
+                write!(f, "the discovery expiry must be 2500 to 60000 milliseconds")
+            }
             Stop::Repeated { arriving, .. } => write!(
                 f,
                 "sequence number {arriving} is a repeat: it is the last one accepted"
@@ -257,6 +263,7 @@ fn stop_of(a: &ffi::Answer, name: Option<&[u8]>) -> Stop {
         (13, ffi::NONE) => Stop::PagesFull,
         (14, ffi::NONE) => Stop::LimitZero,
         (15, ffi::ONE) => Stop::TooShort(a.first),
+        (20, ffi::NONE) => Stop::ExpiryOutOfRange,
         (21, ffi::SEQUENCE) => Stop::Repeated {
             arriving: narrow(a.first),
             last: narrow(a.second),
@@ -302,7 +309,7 @@ mod tests {
     }
 
     // Every number but 0, with its kind of values.
-    const KINDS: [(u8, u8); 16] = [
+    const KINDS: [(u8, u8); 17] = [
         (1, 1),
         (2, 1),
         (3, 1),
@@ -318,6 +325,7 @@ mod tests {
         (13, 0),
         (14, 0),
         (15, 1),
+        (20, 0),
         (21, 4),
     ];
 
@@ -338,7 +346,7 @@ mod tests {
     // The one that was given up, what lies between the numbers and just above them, and the last one; also with the values of 7 and 21.
     #[test]
     fn every_number_between_is_a_bug() {
-        for number in [16, 17, 18, 19, 20, 22, 255] {
+        for number in [16, 17, 18, 19, 22, 255] {
             for kind in [ffi::NONE, ffi::SEQUENCE] {
                 let end = catch_unwind(|| stopped(&answer(number, kind), Some(b"a desk")));
                 let said = end.unwrap_err().downcast::<String>().unwrap();
@@ -354,6 +362,12 @@ mod tests {
     #[should_panic(expected = "a bug: libtamburelvi.a answered 7 with values of kind 1,")]
     fn a_number_with_other_values_is_a_bug() {
         let _ = stopped(&answer(7, ffi::ONE), None);
+    }
+
+    #[test]
+    #[should_panic(expected = "a bug: libtamburelvi.a answered 20 with values of kind 4,")]
+    fn an_expiry_with_values_is_a_bug() {
+        let _ = stopped(&answer(20, ffi::SEQUENCE), None);
     }
 
     #[test]

@@ -226,3 +226,148 @@ fn a_desk_is_restarted() {
     receiver.reset_pairs();
     assert_eq!(receiver.poll(2500), Ok(()));
 }
+
+fn announced(source: u8, page: u8, last_page: u8) -> DiscoveryPacket<'static> {
+    DiscoveryPacket {
+        cid: Cid([source; 16]),
+        page,
+        last_page,
+        name: b"a desk",
+        universes: &[1],
+    }
+}
+
+/// How many sources are partial, and how many are listed.
+fn discovered(receiver: &Receiver) -> (usize, usize) {
+    (
+        receiver.partial_sources().count(),
+        receiver.listed_sources().count(),
+    )
+}
+
+/// The discovery sweep comes every 5,000 ms, just before the announcement where both come together.
+#[test]
+fn a_source_that_announces_itself_every_10_seconds_stays_on_the_list() {
+    let mut receiver = Receiver::new();
+    let mut listed = |expiry: Option<u32>| {
+        if let Some(expiry) = expiry {
+            receiver.set_discovery_expiry(expiry).unwrap();
+        }
+        let mut seen = Vec::new();
+        for now in (0..=60_000).step_by(5_000) {
+            receiver.remove_expired_sources(now);
+            seen.push(discovered(&receiver).1);
+            // The last announcement is that of 30,000.
+            if now % 10_000 == 0 && now <= 30_000 {
+                let page = announced(1, 0, 0);
+                receiver
+                    .handle_universe_discovery_packet(now, &page)
+                    .unwrap();
+            }
+        }
+        seen
+    };
+    let stays = [0, 1, 1, 1, 1, 1, 1, 1, 1, 1, 0, 0, 0];
+    assert_eq!(listed(None), stays);
+    assert_eq!(listed(Some(2_500)), [0; 13]);
+    assert_eq!(listed(Some(20_000)), stays);
+}
+
+/// One rule for both lists: a source stays one millisecond before its expiry, and goes at it.
+#[test]
+fn a_source_goes_at_its_expiry() {
+    let mut fresh = Receiver::new();
+    fresh
+        .handle_universe_discovery_packet(1_000, &announced(1, 0, 0))
+        .unwrap();
+    fresh
+        .handle_universe_discovery_packet(1_000, &announced(2, 1, 1))
+        .unwrap();
+    assert_eq!(discovered(&fresh), (1, 1));
+    let swept = |expiry: Option<u32>, age: u64| {
+        let mut receiver = fresh.clone();
+        if let Some(expiry) = expiry {
+            receiver.set_discovery_expiry(expiry).unwrap();
+        }
+        receiver.remove_expired_sources(1_000 + age);
+        discovered(&receiver)
+    };
+    assert_eq!(swept(None, 19_999), (1, 1));
+    assert_eq!(swept(None, 20_000), (0, 0));
+    assert_eq!(swept(Some(2_500), 2_499), (1, 1));
+    assert_eq!(swept(Some(2_500), 2_500), (0, 0));
+    assert_eq!(swept(Some(60_000), 59_999), (1, 1));
+    assert_eq!(swept(Some(60_000), 60_000), (0, 0));
+    // An age of 33 bits, of which the lower 32 are zero.
+    assert_eq!(swept(Some(60_000), 1 << 32), (0, 0));
+    // A refused expiry leaves the one before it.
+    let mut receiver = fresh.clone();
+    assert_eq!(
+        receiver.set_discovery_expiry(2_499),
+        Err(Stop::ExpiryOutOfRange)
+    );
+    receiver.remove_expired_sources(1_000 + 19_999);
+    assert_eq!(discovered(&receiver), (1, 1));
+    // Each by its own reading: the next page of the partial source lists it, and it stays.
+    receiver
+        .handle_universe_discovery_packet(1_000 + 19_999, &announced(2, 0, 1))
+        .unwrap();
+    receiver.remove_expired_sources(1_000 + 20_000);
+    let listed: Vec<_> = receiver.listed_sources().map(|s| s.cid).collect();
+    assert_eq!(
+        (discovered(&receiver), listed),
+        ((0, 1), vec![Cid([2; 16])])
+    );
+}
+
+/// The pair tables and the waiting data expire at 2,500, whatever the discovery expiry is; the poll drops no source, and the discovery sweep nothing else.
+#[test]
+fn pairs_and_waiting_data_keep_2500() {
+    for (expiry, left) in [(2_500, (0, 0)), (20_000, (1, 1)), (60_000, (1, 1))] {
+        let mut receiver = Receiver::new();
+        receiver.set_discovery_expiry(expiry).unwrap();
+        receiver.listen_universes(&[1, 2, 7]).unwrap();
+        for page in [announced(1, 0, 0), announced(2, 1, 1)] {
+            receiver.handle_universe_discovery_packet(0, &page).unwrap();
+        }
+        let waits = DataPacket {
+            address: 7,
+            ..packet(1, 2, 0, &[0])
+        };
+        let sync = SyncPacket {
+            cid: Cid([1; 16]),
+            address: 7,
+            sequence: 0,
+        };
+        released(receiver.handle_data_packet(0, &packet(1, 1, 0, &[0])));
+        released(receiver.handle_sync_packet(0, &sync));
+        released(receiver.handle_data_packet(0, &waits));
+        let held = |r: &Receiver| {
+            (
+                r.data_pairs().len(),
+                r.sync_pairs().len(),
+                r.waiting_data().len(),
+            )
+        };
+        receiver.poll(2_499).unwrap();
+        assert_eq!(
+            (held(&receiver), discovered(&receiver)),
+            ((2, 1, 1), (1, 1))
+        );
+        let mut swept = receiver.clone();
+        swept.remove_expired_sources(2_500);
+        assert_eq!((held(&swept), discovered(&swept)), ((2, 1, 1), left));
+        receiver.poll(2_500).unwrap();
+        assert_eq!(
+            (held(&receiver), discovered(&receiver)),
+            ((0, 0, 0), (1, 1))
+        );
+        // Announced, it is 4 at the same age.
+        swept.set_announce_timeout(true);
+        assert_eq!(swept.poll(2_499), Ok(()));
+        assert_eq!(
+            swept.poll(2_500),
+            Err(Stop::UniverseTimeout(Cid([1; 16]), 1))
+        );
+    }
+}

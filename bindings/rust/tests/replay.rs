@@ -192,7 +192,7 @@ impl Run {
     fn setting(&mut self, r: &mut Random) {
         let on = r.chance(2);
         let bit = u8::from(on);
-        match r.below(7) {
+        match r.below(8) {
             0 => {
                 self.receiver.set_process_preview_data(on);
                 self.line(format!("preview {bit}"), "0".into());
@@ -222,6 +222,22 @@ impl Run {
                 let limit = r.below(4) as u16;
                 let answer = done(self.receiver.set_source_limit(Some(limit)));
                 self.line(format!("limit {limit}"), answer);
+            }
+            6 => {
+                let expiry = r.pick(&[
+                    0,
+                    2_499,
+                    2_500,
+                    2_501,
+                    20_000,
+                    59_999,
+                    60_000,
+                    60_001,
+                    68_036,
+                    u32::MAX.into(),
+                ]) as u32;
+                let answer = done(self.receiver.set_discovery_expiry(expiry));
+                self.line(format!("expiry {expiry}"), answer);
             }
             _ => {
                 let answer = done(self.receiver.set_source_limit(None));
@@ -397,7 +413,7 @@ fn run(seed: u64) -> Run {
     let mut now = r.below(5000);
     for _ in 0..if many { 3000 } else { 400 } {
         now = match r.below(60) {
-            0 => now + r.pick(&[2499, 2500, 2501]),
+            0 => now + r.pick(&[2499, 2500, 2501, 2500, 19_999, 20_000, 59_999, 60_000]),
             // readings may fall
             1 => now.saturating_sub(3),
             n => now + n / 50,

@@ -128,6 +128,11 @@ fn with_limit(r: &mut Receiver) -> Result<(), Box<dyn core::error::Error>> {
     Ok(())
 }
 
+fn with_expiry(r: &mut Receiver) -> Result<(), Box<dyn core::error::Error>> {
+    r.set_discovery_expiry(60_001)?;
+    Ok(())
+}
+
 fn with_text(text: &str) -> Result<Cid, Box<dyn core::error::Error>> {
     Ok(text.parse()?)
 }
@@ -187,6 +192,13 @@ fn the_question_mark_works_for_every_call() {
     assert_eq!(
         said(with_limit(&mut r)),
         (14, "the source limit cannot be 0 (number 14)".into())
+    );
+    assert_eq!(
+        said(with_expiry(&mut r)),
+        (
+            20,
+            "the discovery expiry must be 2500 to 60000 milliseconds (number 20)".into()
+        )
     );
     assert_eq!(
         with_text("11").unwrap_err().to_string(),
@@ -264,6 +276,10 @@ fn every_stop_is_a_sentence_with_its_number() {
             "the lent memory is too short: 35072 bytes are needed (number 15)",
         ),
         (
+            Stop::ExpiryOutOfRange,
+            "the discovery expiry must be 2500 to 60000 milliseconds (number 20)",
+        ),
+        (
             repeated,
             "sequence number 10 is a repeat: it is the last one accepted (number 21)",
         ),
@@ -272,7 +288,10 @@ fn every_stop_is_a_sentence_with_its_number() {
         assert_eq!(stop.to_string(), text);
     }
     let numbers = all.map(|(stop, _)| stop.number());
-    assert!(numbers.into_iter().eq((1..=15).chain([21])), "{numbers:?}");
+    assert!(
+        numbers.into_iter().eq((1..=15).chain([20, 21])),
+        "{numbers:?}"
+    );
     assert_eq!(
         Stop::SourcesExceeded(1).to_string(),
         "the source limit is reached: 1 source (number 6)"
@@ -283,7 +302,7 @@ fn every_stop_is_a_sentence_with_its_number() {
     );
 }
 
-/// 1 to 14 and 21 through the library; 15 cannot be given to this crate.
+/// 1 to 14, 20 and 21 through the library; 15 cannot be given to this crate.
 #[test]
 fn every_number_that_can_be_given_is_given() {
     // 1, in the order name, list
@@ -310,7 +329,7 @@ fn every_number_that_can_be_given_is_given() {
         r.handle_universe_discovery_packet(0, &long),
         Err(Stop::TooLong(513))
     );
-    // 2 by a call and by an address, 3, 14
+    // 2 by a call and by an address, 3, 14, 20
     assert_eq!(
         r.listen_universes(&[5, 64_213, 0]),
         Err(Stop::IllegalUniverse(64_213))
@@ -326,6 +345,7 @@ fn every_number_that_can_be_given_is_given() {
     assert_eq!(r.mute_universe(0), Err(Stop::IllegalUniverse(0)));
     assert_eq!(r.mute_universe(5), Err(Stop::UniverseNotRegistered(5)));
     assert_eq!(r.set_source_limit(Some(0)), Err(Stop::LimitZero));
+    assert_eq!(r.set_discovery_expiry(0), Err(Stop::ExpiryOutOfRange));
     // 21, 7 at both ends, which change nothing; 6
     let repeated = Stop::Repeated {
         arriving: 0,
@@ -445,6 +465,7 @@ fn a_clone_is_a_receiver_of_its_own() {
     let mut first = listening([1, 2]);
     first.set_announce_timeout(true);
     first.set_source_limit(Some(9)).unwrap();
+    first.set_discovery_expiry(30_000).unwrap();
     let _ = first.handle_data_packet(10, &data(1, 1, 0)).unwrap();
     let _ = first.handle_data_packet(10, &waits(1, 2, 0)).unwrap();
     let _ = first
@@ -471,8 +492,13 @@ fn a_clone_is_a_receiver_of_its_own() {
         .unwrap();
     second.listen_universes(&[5]).unwrap();
     second.set_merge(Merge::HtpDmxMerge);
+    second.set_discovery_expiry(2_500).unwrap();
     assert_eq!(read(&first), before);
     assert_ne!(read(&second), before);
+    assert_eq!(
+        (first.discovery_expiry(), second.discovery_expiry()),
+        (30_000, 2_500)
+    );
 
     // And the other way round; the first still does what it would have done.
     let after = read(&second);
@@ -531,6 +557,7 @@ fn each_half_leaves_what_the_other_clears() {
     assert_eq!([read(&one), read(&other)], [read(&whole), read(&whole)]);
 }
 
+/// Every setter changes its own setting and leaves the others; a refused one leaves all.
 #[test]
 fn every_setting_can_be_read() {
     let mut r = Receiver::new();
@@ -544,28 +571,66 @@ fn every_setting_can_be_read() {
             ],
             r.merge(),
             r.source_limit(),
+            r.discovery_expiry(),
         )
     };
     let by_priority = Merge::DiscardLowestPriorityThenPrevious;
-    assert_eq!(all(&r), ([false; 4], by_priority, None));
+    let by_value = Merge::HtpDmxMerge;
+    assert_eq!(all(&r), ([false; 4], by_priority, None, 20_000));
+    r.set_discovery_expiry(60_000).unwrap();
+    assert_eq!(all(&r), ([false; 4], by_priority, None, 60_000));
     r.set_process_preview_data(true);
-    assert_eq!(all(&r), ([true, false, false, false], by_priority, None));
+    assert_eq!(
+        all(&r),
+        ([true, false, false, false], by_priority, None, 60_000)
+    );
     r.set_announce_source_discovery(true);
-    assert_eq!(all(&r), ([true, true, false, false], by_priority, None));
+    assert_eq!(
+        all(&r),
+        ([true, true, false, false], by_priority, None, 60_000)
+    );
     r.set_announce_stream_termination(true);
-    assert_eq!(all(&r), ([true, true, true, false], by_priority, None));
+    assert_eq!(
+        all(&r),
+        ([true, true, true, false], by_priority, None, 60_000)
+    );
     r.set_announce_timeout(true);
-    assert_eq!(all(&r), ([true; 4], by_priority, None));
-    r.set_merge(Merge::HtpDmxMerge);
-    assert_eq!(all(&r), ([true; 4], Merge::HtpDmxMerge, None));
+    assert_eq!(all(&r), ([true; 4], by_priority, None, 60_000));
+    r.set_merge(by_value);
+    assert_eq!(all(&r), ([true; 4], by_value, None, 60_000));
     r.set_source_limit(Some(65_535)).unwrap();
-    assert_eq!(all(&r), ([true; 4], Merge::HtpDmxMerge, Some(65_535)));
+    assert_eq!(all(&r), ([true; 4], by_value, Some(65_535), 60_000));
     assert_eq!(r.set_source_limit(Some(0)), Err(Stop::LimitZero));
-    assert_eq!(all(&r), ([true; 4], Merge::HtpDmxMerge, Some(65_535)));
+    assert_eq!(all(&r), ([true; 4], by_value, Some(65_535), 60_000));
+    // Both ends of the range, the numbers beside them, 2,500 with 65,536 more, and both ends of 32 bits.
+    for (expiry, taken) in [
+        (2_500, true),
+        (2_499, false),
+        (60_000, true),
+        (60_001, false),
+        (2_501, true),
+        (0, false),
+        (68_036, false),
+        (u32::MAX, false),
+    ] {
+        let before = (r.discovery_expiry(), format!("{r:?}"));
+        if taken {
+            assert_eq!(r.set_discovery_expiry(expiry), Ok(()), "{expiry}");
+            assert_eq!(all(&r), ([true; 4], by_value, Some(65_535), expiry));
+        } else {
+            let refused = r.set_discovery_expiry(expiry);
+            assert_eq!(refused, Err(Stop::ExpiryOutOfRange), "{expiry}");
+            assert_eq!(all(&r), ([true; 4], by_value, Some(65_535), before.0));
+            assert_eq!(format!("{r:?}"), before.1);
+        }
+    }
     r.set_source_limit(None).unwrap();
     r.set_merge(by_priority);
     r.set_process_preview_data(false);
-    assert_eq!(all(&r), ([false, true, true, true], by_priority, None));
+    assert_eq!(
+        all(&r),
+        ([false, true, true, true], by_priority, None, 2_501)
+    );
 }
 
 #[test]
@@ -577,7 +642,7 @@ fn debug_is_short() {
         format!("{r:?}"),
         "Receiver { data_pairs: 1, data_sources: 1, sync_pairs: 0, sync_sources: 0, waiting_data: 0, listened_universes: 2, discovered_sources: 0, \
          discovery_pages: 0, process_preview_data: false, announce_source_discovery: false, announce_stream_termination: false, announce_timeout: false, \
-         merge: DiscardLowestPriorityThenPrevious, source_limit: Some(3), .. }"
+         merge: DiscardLowestPriorityThenPrevious, source_limit: Some(3), discovery_expiry: 20000, .. }"
     );
     let step = r.handle_data_packet(0, &data(1, 1, 1)).unwrap();
     assert_eq!(
@@ -737,7 +802,9 @@ fn only_making_and_cloning_takes_memory() {
     );
     assert_eq!(stop(r.handle_data_packet(0, &waits(1, 1, 0))).number(), 21);
     assert_eq!(r.listed_sources().flat_map(|s| s.pages()).count(), 1);
-    r.poll(9000).unwrap();
-    r.remove_expired_sources(9000);
+    assert_eq!(r.set_discovery_expiry(0), Err(Stop::ExpiryOutOfRange));
+    r.poll(20_000).unwrap();
+    r.remove_expired_sources(20_000);
+    assert_eq!((r.data_pairs().len(), r.listed_sources().count()), (0, 0));
     assert_eq!(taken() - start, 2);
 }

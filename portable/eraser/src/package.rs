@@ -154,7 +154,7 @@ struct Types {
     arrays: Vec<String>,
 }
 
-const NUMBERS: &[&str] = &["bool", "u8", "u16", "u64", "usize"];
+const NUMBERS: &[&str] = &["bool", "u8", "u16", "u32", "u64", "usize"];
 
 /// The C symbol of an exported function. A slice arrives as a pointer and a length, all else as Rust has it.
 fn symbol(

@@ -322,7 +322,7 @@ fn the_c_boundary() {
     for parameter in [
         "a: &[u64]",
         "a: &mut [[u8; 2]]",
-        "a: u32",
+        "a: i64",
         "a: Plain",
         "a: Pairs",
         "a: &Reply",
@@ -333,7 +333,7 @@ fn the_c_boundary() {
     ] {
         refused_package(with(f(parameter, "Reply")), at, "parameter `");
     }
-    for result in ["Plain", "Pairs", "u32", "Unknown"] {
+    for result in ["Plain", "Pairs", "i64", "Unknown"] {
         refused_package(with(f("a: u8", result)), at, "result `");
     }
     refused_package(
@@ -358,14 +358,14 @@ fn the_c_boundary() {
         .collect(),
         wanted: vec!["rules".into(), "tamburelvi".into()],
         files: with(f(
-            "a: &Pairs, b: &mut Pairs, c: &[u8], d: &mut [u16], e: Reply, g: usize",
+            "a: &Pairs, b: &mut Pairs, c: &[u8], d: &mut [u16], e: Reply, g: usize, h: u32",
             "Reply",
         )),
     };
     let p = package(&sources).unwrap_or_else(|e| panic!("{e}"));
     assert!(p.files["c.rs"].contains(
-        "pub extern \"C\" fn f(a: &crate::rules::Pairs, b: &mut crate::rules::Pairs, c: *const u8, c_length: usize, d: *mut u16, d_length: usize, e: crate::rules::Reply, g: usize) -> crate::rules::Reply {\n    \
-         crate::tamburelvi::f(a, b, unsafe { core::slice::from_raw_parts(c, c_length) }, unsafe { core::slice::from_raw_parts_mut(d, d_length) }, e, g)\n}\n"
+        "pub extern \"C\" fn f(a: &crate::rules::Pairs, b: &mut crate::rules::Pairs, c: *const u8, c_length: usize, d: *mut u16, d_length: usize, e: crate::rules::Reply, g: usize, h: u32) -> crate::rules::Reply {\n    \
+         crate::tamburelvi::f(a, b, unsafe { core::slice::from_raw_parts(c, c_length) }, unsafe { core::slice::from_raw_parts_mut(d, d_length) }, e, g, h)\n}\n"
     ), "{}", p.files["c.rs"]);
     assert_eq!(p.symbols, 1);
 }
