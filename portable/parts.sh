@@ -2,7 +2,7 @@
 # Sourced by portable/host and portable/arm from the root of the repository: runs checks as parts, each with a line.
 # A part is a function of the script, run by another shell of the same script, in which any command that fails ends it
 # (`set -e` does not count within `||` and `if`); that shell gets the function's name by the first two words.
-made=target/portable
+made=${PORTABLE_FOLDER:-target/portable} # PORTABLE_FOLDER, below the root: for a portable/arm beside another run; portable/host knows target/portable alone
 logs=$made/logs
 mkdir -p "$logs"
 passed=0 failed='' left=0
