@@ -1125,6 +1125,11 @@ static inline tamburelvi_answer tamburelvi_inner_kept(tamburelvi_receiver *recei
     return reply.answer;
 }
 
+static inline tamburelvi_answer tamburelvi_inner_adjusted(tamburelvi_receiver *receiver, tamburelvi_adjusted adjusted) {
+    receiver->settings = adjusted.settings;
+    return tamburelvi_inner_bare(adjusted.number);
+}
+
 /* The library takes no null pointer: with a length of 0 it gets one of these. */
 static inline const uint8_t *tamburelvi_inner_no_bytes(void) {
     static const uint8_t none = 0;
@@ -1483,12 +1488,9 @@ static inline tamburelvi_answer tamburelvi_receiver_clear_source_limit(tamburelv
  * @return 0; 14 for a limit of 0, which changes nothing; 254 or 255.
  */
 static inline tamburelvi_answer tamburelvi_receiver_set_source_limit(tamburelvi_receiver *receiver, uint16_t limit) {
-    tamburelvi_adjusted adjusted;
     uint8_t fault = tamburelvi_inner_fault(receiver);
     if (fault) return tamburelvi_inner_bare(fault);
-    adjusted = tamburelvi_set_source_limit(receiver->settings, limit);
-    receiver->settings = adjusted.settings;
-    return tamburelvi_inner_bare(adjusted.number);
+    return tamburelvi_inner_adjusted(receiver, tamburelvi_set_source_limit(receiver->settings, limit));
 }
 
 /**
@@ -1503,12 +1505,9 @@ static inline tamburelvi_answer tamburelvi_receiver_set_source_limit(tamburelvi_
  * @return 0; 20 for any other expiry, which changes nothing; 254 or 255.
  */
 static inline tamburelvi_answer tamburelvi_receiver_set_discovery_expiry(tamburelvi_receiver *receiver, uint32_t expiry) {
-    tamburelvi_adjusted adjusted;
     uint8_t fault = tamburelvi_inner_fault(receiver);
     if (fault) return tamburelvi_inner_bare(fault);
-    adjusted = tamburelvi_set_discovery_expiry(receiver->settings, expiry);
-    receiver->settings = adjusted.settings;
-    return tamburelvi_inner_bare(adjusted.number);
+    return tamburelvi_inner_adjusted(receiver, tamburelvi_set_discovery_expiry(receiver->settings, expiry));
 }
 
 /* ---- Read-outs: places from 0; each says whether there was such an entry, and writes nothing where there was none. ---- */

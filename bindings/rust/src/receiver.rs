@@ -302,13 +302,10 @@ impl Receiver {
             self.settings = ffi::tamburelvi_clear_source_limit(self.settings);
             return Ok(());
         };
-        let adjusted = ffi::tamburelvi_set_source_limit(self.settings, limit);
-        self.settings = adjusted.settings;
-        match adjusted.number {
-            0 => Ok(()),
-            14 => Err(Stop::LimitZero),
-            number => unknown(number, ffi::NONE),
-        }
+        self.adjusted(
+            ffi::tamburelvi_set_source_limit(self.settings, limit),
+            Stop::LimitZero,
+        )
     }
 
     /// At which age, in milliseconds, the discovery sweep drops a source. Fresh: 20,000.
@@ -326,11 +323,18 @@ impl Receiver {
     ///
     /// 20 for an expiry under 2,500 or over 60,000, which changes nothing.
     pub fn set_discovery_expiry(&mut self, expiry: u32) -> Result<(), Stop> {
-        let adjusted = ffi::tamburelvi_set_discovery_expiry(self.settings, expiry);
+        self.adjusted(
+            ffi::tamburelvi_set_discovery_expiry(self.settings, expiry),
+            Stop::ExpiryOutOfRange,
+        )
+    }
+
+    // What a setter leaves and answers that refuses with this stop alone.
+    fn adjusted(&mut self, adjusted: ffi::Adjusted, refusal: Stop) -> Result<(), Stop> {
         self.settings = adjusted.settings;
         match adjusted.number {
             0 => Ok(()),
-            20 => Err(Stop::ExpiryOutOfRange),
+            number if number == refusal.number() => Err(refusal),
             number => unknown(number, ffi::NONE),
         }
     }

@@ -43,6 +43,7 @@ use Rattle.model.specs.declared.ClearAnswer.the-variants as clearing
 use Rattle.model.specs.Answer.{pollNumber, expiryNumber, listenNumber, muteNumber, clearNumber}
 use Rattle.model.specs.State.{State, listens}
 use Rattle.model.specs.Step.{short, waiting-bytes, page-bytes, poll, with-data, with-sync, with-waiting, with-listened, with-discovered}
+use Rattle.model.specs.Expiry.{sweep-by}
 use Rattle.model.specs.Calls.{polled-by, poll-call, expiry-call, listen-call, muted, mute-call, clear-call, clear-all-call, reset-pairs-call, reset-discovery-call, reset-call}
 use Rattle.timeouts.specs.View.{Polls}
 use Rattle.listening.specs.Laws.{refused-list}
@@ -136,17 +137,12 @@ module _ (S : Settings) (now : ℕ) (r : Receiver) (m : Memory) where
   unfolding expiry-call
   does-expiry-short n e = record { outcome-is = rw (e, expiry-call); kept = λ k. k; all-left = λ z. (refl, refl); lent-waiting = lent-none (m .rows) (m .store); lent-pages = pool.lent-none (m .universes) }
 
-  expiry-long : short page-bytes (bytes (m .universes)) ≡ none
-      → expiry-call (bytes (m .universes)) S now (stateOf r m) ≡ (with-discovered (swept (S .«discovery_expiry») now (stateOf r m .discovered)) (stateOf r m), expiry.Swept)
-  unfolding expiry-call
-  expiry-long e = rw (e, expiry-call)
-
   pub does-expiry : (d : Discovery) (sources names pages : Rows) (universes : List ℕ) → short page-bytes (bytes (m .universes)) ≡ none
       → Holds (m .universes) d sources names pages universes (swept (S .«discovery_expiry») now (stateOf r m .discovered))
       → Does (expiry-call (bytes (m .universes)) S now) expiryNumber r m (record { sequences = r .sequences; waiting = r .waiting; listened = r .listened; discovery = d })
       (with-discovery-rows sources names pages universes m) expiry.Swept
   does-expiry d sources names pages universes e h = record {
-    outcome-is = expiry-long e ∙ (λ i. (with-discovered (sym (h .seen) i) (stateOf r m), expiry.Swept));
+    outcome-is = sweep-by (bytes (m .universes)) S now (stateOf r m) e ∙ (λ i. (with-discovered (sym (h .seen) i) (stateOf r m), expiry.Swept));
     kept = λ k. record { kept-sequences = k .kept-sequences; kept-waiting = k .kept-waiting; kept-listened = k .kept-listened; kept-discovery = λ z. h .kept };
     all-left = λ f. clash f refl;
     lent-waiting = lent-none (m .rows) (m .store);

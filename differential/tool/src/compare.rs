@@ -23,14 +23,18 @@ impl Side {
         }
     }
 
-    pub fn run(&self, script: &str) -> Result<String, String> {
-        let mut child = Command::new(&self.command[0])
+    fn start(&self, stdout: Stdio, stderr: Stdio) -> Result<Child, String> {
+        Command::new(&self.command[0])
             .args(&self.command[1..])
             .stdin(Stdio::piped())
-            .stdout(Stdio::piped())
-            .stderr(Stdio::null())
+            .stdout(stdout)
+            .stderr(stderr)
             .spawn()
-            .map_err(|e| format!("{}: {e}", self.command[0]))?;
+            .map_err(|e| format!("{}: {e}", self.command[0]))
+    }
+
+    pub fn run(&self, script: &str) -> Result<String, String> {
+        let mut child = self.start(Stdio::piped(), Stdio::null())?;
         let mut stdin = child.stdin.take().expect("a pipe");
         let input = script.as_bytes().to_vec();
         // A side that ends early leaves the rest of its script unread.
@@ -48,13 +52,7 @@ impl Side {
 
     /// What the side says on standard error to a script at which it ends.
     fn complaint(&self, script: &[String]) -> Result<String, String> {
-        let mut child = Command::new(&self.command[0])
-            .args(&self.command[1..])
-            .stdin(Stdio::piped())
-            .stdout(Stdio::null())
-            .stderr(Stdio::piped())
-            .spawn()
-            .map_err(|e| format!("{}: {e}", self.command[0]))?;
+        let mut child = self.start(Stdio::null(), Stdio::piped())?;
         let mut stdin = child.stdin.take().expect("a pipe");
         let _ = stdin.write_all(lines(script).as_bytes());
         drop(stdin);
