@@ -3,7 +3,7 @@
 use mathlib.Core.List.{List, [], _∷_}
 use Prim.Native.Nat.{ℕ}
 use Rattle.rules.specs.Answer.{Value, number, integer, source, name}
-use Rattle.waiting.specs.Records.{bit}
+use Rattle.rules.specs.Bytes.{bit}
 use Rattle.model.specs.declared.StepAnswer.{StepAnswer}
 use Rattle.model.specs.declared.StepAnswer.the-variants as says
 use Rattle.model.specs.declared.PollAnswer.{PollAnswer}

@@ -21,6 +21,11 @@ unfoldable pub bigEndian : ℕ → ℕ → List ℕ
 bigEndian zero w = []
 bigEndian (suc n) w = w / 256 ^ n % 256 ∷ bigEndian n w
 
+-- a flag as a number
+abbrev pub bit : Bool → ℕ
+bit true = 1
+bit false = 0
+
 -- a word of eight bytes with its bytes the other way round
 abbrev pub turnedOf : ℕ → ℕ
 turnedOf w = number (reverse (bigEndian 8 w))

@@ -1,21 +1,17 @@
 -- Document 01, 'Released bytes'.
 -- Assumes nothing.
 use mathlib.Core.Path.{_≡_, refl}
-use mathlib.Core.Bool.{Bool, true, false, cond}
+use mathlib.Core.Bool.{false}
 use mathlib.Core.List.{List, [], _∷_, _++_}
 use Prim.Native.Nat.{ℕ}
 use lib.ListN.{length, drop, replicate}
 use Rattle.rules.specs.declared.Cid.{Cid}
-use Rattle.rules.specs.Bytes.{bigEndian, number}
+use Rattle.rules.specs.Bytes.{bigEndian, number, bit}
 use Rattle.rules.specs.Cid.{cidBytes}
 use Rattle.merge.specs.declared.DmxData.{DmxData}
 use Rattle.merge.specs.declared.SourceCid.{SourceCid}
 use Rattle.merge.specs.declared.SourceCid.the-variants.{Merged, Of}
 use Rattle.merge.specs.Merge.{Dmx}
-
-abbrev pub bit : Bool → ℕ
-bit true = 1
-bit false = 0
 
 -- "CID present 1, CID 16 (zeros if none)"
 abbrev pub owner : SourceCid → List ℕ

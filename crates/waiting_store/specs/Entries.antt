@@ -14,12 +14,12 @@ use Rattle.laws.specs.Table.{Ascending, any}
 use Rattle.laws.specs.Place.{prefix}
 use Rattle.laws.specs.Parts.{pasted, pasted-front, drop-pasted, length-pasted, pasted-shift}
 use Rattle.rules.specs.declared.Cid.{Cid}
+use Rattle.rules.specs.Bytes.{bit}
 use Rattle.merge.specs.declared.DmxData.{DmxData}
 use Rattle.merge.specs.declared.SourceCid.{SourceCid}
 use Rattle.merge.specs.declared.SourceCid.the-variants.{Merged, Of}
 use Rattle.merge.specs.Merge.{Dmx, most-values}
 use Rattle.merge.specs.Views.{dmx}
-use Rattle.waiting.specs.Records.{bit}
 use Rattle.waiting.specs.Waiting.{universeOf, Within, Ordered, capacity, store-length}
 
 -- ── the view ──

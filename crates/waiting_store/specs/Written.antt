@@ -13,12 +13,12 @@ use Rattle.laws.specs.Table.{keep, length-keep}
 use Rattle.laws.specs.Arrays.{next, spent}
 use Rattle.laws.specs.Parts.{pasted, pasted-none, pasted-append, pasted-front, length-pasted}
 use Rattle.rules.specs.Age.{expired}
-use Rattle.rules.specs.Bytes.{bigEndian}
+use Rattle.rules.specs.Bytes.{bigEndian, bit}
 use Rattle.merge.specs.declared.DmxData.{DmxData}
 use Rattle.merge.specs.Merge.{Dmx}
 use Rattle.merge.specs.Views.{dmx}
 use Rattle.waiting.specs.Waiting.{fresh, of-address, released, capacity}
-use Rattle.waiting.specs.Records.{bit, owner, encode, records, over, most-bytes}
+use Rattle.waiting.specs.Records.{owner, encode, records, over, most-bytes}
 use Rattle.waiting.specs.Laws.{length-encode, records-within, within-keep}
 use Rattle.waiting_store.specs.Entries.{entries, Room, within-entries}
 
