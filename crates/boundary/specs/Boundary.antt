@@ -9,10 +9,11 @@ use Rattle.rules.specs.declared.Cid.{Cid}
 use Rattle.rules.specs.Answer.{Value, number, integer, source, name}
 use Rattle.settings.specs.declared.Settings.{Settings}
 use Rattle.settings.specs.Settings.{settings}
-use Rattle.settings.specs.declared.MergeChoice.{MergeChoice}
-use Rattle.settings.specs.declared.MergeChoice.the-variants.{DiscardLowestPriorityThenPrevious, HtpDmxMerge}
-use Rattle.settings.specs.declared.SourceLimit.{SourceLimit}
-use Rattle.settings.specs.declared.SourceLimit.the-variants.{Unlimited, AtMost}
+use Rattle.settings_store.specs.declared.StoreSettingsAnswer.{StoreSettingsAnswer}
+use Rattle.settings_store.specs.declared.StoreSettingsAnswer.the-variants as storing
+use Rattle.settings_store.specs.declared.LoadSettingsAnswer.{LoadSettingsAnswer}
+use Rattle.settings_store.specs.declared.LoadSettingsAnswer.the-variants as loading
+use Rattle.settings_store.specs.Record.{mergeNumber, mergeOf, limitNumber, limitOf}
 use Rattle.model.specs.declared.StepAnswer.{StepAnswer}
 use Rattle.model.specs.declared.StepAnswer.the-variants as says
 use Rattle.model.specs.declared.PollAnswer.{PollAnswer}
@@ -26,7 +27,7 @@ use Rattle.model.specs.declared.MuteAnswer.the-variants as muting
 use Rattle.model.specs.declared.ClearAnswer.{ClearAnswer}
 use Rattle.model.specs.declared.ClearAnswer.the-variants as clearing
 use Rattle.discovery.specs.Discovery.{Announcement}
-use Rattle.waiting.specs.Records.{bit}
+use Rattle.rules.specs.Bytes.{bit}
 use Rattle.model.specs.Packet.{DataPacket, SyncPacket}
 use Rattle.receiver.specs.declared.Receiver.{Receiver}
 use Rattle.steps.specs.declared.Handled.{Handled}
@@ -37,6 +38,7 @@ use Rattle.boundary.specs.declared.Sync.{Sync}
 use Rattle.boundary.specs.declared.Page.{Page}
 use Rattle.boundary.specs.declared.Answer.{Answer}
 use Rattle.boundary.specs.declared.Reply.{Reply}
+use Rattle.boundary.specs.declared.Adjusted.{Adjusted}
 
 -- ── the header ──
 abbrev pub receiverOf : Header → Receiver
@@ -68,17 +70,20 @@ headerOf r = record {
 }
 
 -- ── the settings ──
--- merge: 0 for the choice by priority, any other number for the highest values
-abbrev pub mergeOf : ℕ → MergeChoice
-mergeOf n = cond (eqb n 0) DiscardLowestPriorityThenPrevious HtpDmxMerge
-
--- limit: 0 for none
-abbrev pub limitOf : ℕ → SourceLimit
-limitOf n = cond (eqb n 0) Unlimited (AtMost n)
-
--- the expiry: as it is
+-- merge, 0 for the choice by priority and any other number for the highest values, and limit, 0 for none, as in a settings record; the expiry as it is
 abbrev pub settingsOf : Choices → Settings
 settingsOf c = settings (c .«process_preview_data») (c .«announce_source_discovery») (c .«announce_stream_termination») (c .«announce_timeout») (mergeOf (c .merge)) (limitOf (c .«source_limit»)) (c .«discovery_expiry»)
+
+abbrev pub choicesOf : Settings → Choices
+choicesOf s = record {
+  «process_preview_data» = s .«process_preview_data»;
+  «announce_source_discovery» = s .«announce_source_discovery»;
+  «announce_stream_termination» = s .«announce_stream_termination»;
+  «announce_timeout» = s .«announce_timeout»;
+  merge = mergeNumber (s .merge);
+  «source_limit» = limitNumber (s .«source_limit»);
+  «discovery_expiry» = s .«discovery_expiry»;
+}
 
 -- ── the packets ──
 abbrev pub packetIn : Data → List ℕ → DataPacket
@@ -170,6 +175,19 @@ mutedOf (muting.UniverseNotRegistered u) = oneOf 3 u
 abbrev pub clearedOf : ClearAnswer → Answer
 clearedOf (clearing.Cleared b) = oneOf 0 (bit b)
 clearedOf (clearing.TooShort n) = oneOf 15 n
+
+-- the writer of a settings record
+abbrev pub storedOf : StoreSettingsAnswer → Answer
+storedOf storing.Stored = bareOf 0
+storedOf (storing.TooShort n) = oneOf 15 n
+storedOf storing.LimitZero = bareOf 14
+storedOf storing.ExpiryOutOfRange = bareOf 20
+
+-- its reader: the settings that were read, or the caller's as they were
+abbrev pub loadedOf : Choices → LoadSettingsAnswer → Adjusted
+loadedOf c (loading.Loaded s) = record { choices = choicesOf s; number = 0 }
+loadedOf c loading.NoSettingsRecord = record { choices = c; number = 22 }
+loadedOf c loading.UnreadableSettingsRecord = record { choices = c; number = 23 }
 
 -- what a step leaves and answers
 abbrev pub replyOf : Handled → Reply

@@ -3,11 +3,14 @@ ghost use mathlib.Core.Path.{_≡_};
 ghost use mathlib.Core.List.{List};
 ghost use Prim.Native.Nat.{ℕ};
 ghost use Rattle.settings.specs.Settings.{limited, expiring, numberOf};
-ghost use Rattle.waiting.specs.Records.{bit};
+ghost use Rattle.rules.specs.Bytes.{bit};
 ghost use Rattle.lengths.specs.Space.{bytes};
 ghost use Rattle.packets.specs.View.{packetOf, syncOf};
 ghost use Rattle.packets.specs.View.{announcementOf};
-ghost use Rattle.boundary.specs.Boundary.{receiverOf, headerOf, mergeOf, limitOf, settingsOf, packetIn, syncIn, announcedIn, bareOf, oneOf, twoOf, pairOf, sequenceOf, discoveredOf, toldOf, replyOf, polledOf, sweptOf, heardOf, mutedOf, clearedOf};
+ghost use Rattle.boundary.specs.Boundary.{receiverOf, headerOf, settingsOf, packetIn, syncIn, announcedIn, bareOf, oneOf, twoOf, pairOf, sequenceOf, discoveredOf, toldOf, replyOf, polledOf, sweptOf, heardOf, mutedOf, clearedOf};
+
+pub mod records;
+
 use discovery_calls::Discovery;
 use listening::Listened;
 use model::ClearAnswer;
@@ -27,10 +30,10 @@ use rules::Cid;
 use rules::DataSequence;
 use rules::SyncSequence;
 use sequences::SequenceNumbering;
-use settings::MergeChoice;
 use settings::Settings;
-use settings::SourceLimit;
 use settings::is_expiry_in_range;
+use settings_calls::limit_of;
+use settings_calls::merge_of;
 use steps::Handled;
 use waiting_calls::Waiting;
 
@@ -169,24 +172,6 @@ pub fn header_of(r: Receiver) -> Header
         data_tidy: r.sequences.data.table.tidy,
         sync_tidy: r.sequences.sync.table.tidy,
     }
-}
-
-fn merge_of(n: u8) -> MergeChoice
-    ensures { λ r. ⌜ r ≡ mergeOf n ⌝ }
-{
-    if n == 0 {
-        return MergeChoice::DiscardLowestPriorityThenPrevious;
-    }
-    MergeChoice::HtpDmxMerge
-}
-
-fn limit_of(n: u16) -> SourceLimit
-    ensures { λ r. ⌜ r ≡ limitOf n ⌝ }
-{
-    if n == 0 {
-        return SourceLimit::Unlimited;
-    }
-    SourceLimit::AtMost(n)
 }
 
 pub fn settings_of(c: Choices) -> Settings

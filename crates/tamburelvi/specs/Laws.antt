@@ -5,6 +5,10 @@ use mathlib.Core.List.{List}
 use Prim.Native.Nat.{ℕ}
 use Rattle.rules.specs.Answer.{Value}
 use Rattle.settings.specs.declared.Settings.{Settings}
+use Rattle.settings_store.specs.declared.Layouts.{Layouts}
+use Rattle.settings_store.specs.declared.StoreSettingsAnswer.{StoreSettingsAnswer}
+use Rattle.settings_store.specs.declared.LoadSettingsAnswer.{LoadSettingsAnswer}
+use Rattle.settings_store.specs.Record.{Stores, Loads}
 use Rattle.model.specs.State.{State}
 use Rattle.model.specs.Packet.{Packet}
 use Rattle.receiver.specs.declared.Receiver.{Receiver}
@@ -14,9 +18,11 @@ use Rattle.handlers.specs.View.{Steps}
 use Rattle.boundary.specs.declared.Header.{Header}
 use Rattle.boundary.specs.declared.Answer.{Answer}
 use Rattle.boundary.specs.declared.Reply.{Reply}
-use Rattle.boundary.specs.Boundary.{receiverOf, headerOf, replyOf}
-use Rattle.tamburelvi.specs.Promises.{Replies, Answers}
-use Rattle.boundary.specs.Laws.{step-number, step-values, Tells}
+use Rattle.boundary.specs.declared.Choices.{Choices}
+use Rattle.boundary.specs.declared.Adjusted.{Adjusted}
+use Rattle.boundary.specs.Boundary.{receiverOf, headerOf, settingsOf, storedOf, loadedOf, replyOf}
+use Rattle.tamburelvi.specs.Promises.{Replies, Answers, StoresSettings, LoadsSettings}
+use Rattle.boundary.specs.Laws.{step-number, step-values, Tells, tells-store, load-number, load-left, load-taken}
 
 pub kept-there : (h : Header) (r : Receiver) (m : Memory) → r ≡ receiverOf h → Kept (receiverOf h) m → Kept r m
 kept-there h r m e k = subst (λ (x : Receiver). Kept x m) (sym e) k
@@ -53,3 +59,25 @@ begun r m x z e = subst (λ (w : Header). Begins (receiverOf w) m) (sym e) z
 
 pub become : (call : State → State) (h : Header) (m : Memory) (f r : Receiver) (x : Header) → f ≡ receiverOf h → Becomes call f r m → x ≡ headerOf r → Becomes call (receiverOf h) (receiverOf x) m
 become call h m f r x e z p = subst (λ (w : Header). Becomes call (receiverOf h) (receiverOf w) m) (sym p) (subst (λ (w : Receiver). Becomes call w r m) e z)
+
+-- ── settings records ──
+pub stores-settings : (c : Choices) (before after : List ℕ) (S : Settings) (a : StoreSettingsAnswer) (r : Answer) → S ≡ settingsOf c → Stores S before a after → r ≡ storedOf a → StoresSettings c before r after
+stores-settings c before after S a r e z q =
+    subst (λ (w : Answer). StoresSettings c before w after) (sym q)
+    (record {
+      answer = a;
+      stores = subst (λ (w : Settings). Stores w before a after) e z;
+      number-is = tells-store a .number-is;
+      values-are = tells-store a .values-are;
+    })
+
+pub loads-settings : (layouts : Layouts) (c : Choices) (bytes : List ℕ) (a : LoadSettingsAnswer) (r : Adjusted) → Loads layouts bytes a → r ≡ loadedOf c a → LoadsSettings layouts c bytes r
+loads-settings layouts c bytes a r z q =
+    subst (λ (w : Adjusted). LoadsSettings layouts c bytes w) (sym q)
+    (record {
+      answer = a;
+      loads = z;
+      number-is = load-number c a;
+      taken = λ s e. load-taken c a s e (z .proper s e);
+      left = load-left c a;
+    })

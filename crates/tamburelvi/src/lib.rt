@@ -2,6 +2,8 @@
 ghost use mathlib.Core.Path.{_≡_};
 ghost use lib.ListN.{length};
 ghost use Rattle.settings.specs.Settings.{fresh, withPreview, withDiscovery, withTermination, withTimeout, withMerge, withoutLimit, limited, expiring, numberOf};
+ghost use Rattle.settings_store.specs.declared.Layouts.the-variants.{First, Both};
+ghost use Rattle.settings_store.specs.Record.{mergeOf};
 ghost use Rattle.listening.specs.View as listening;
 ghost use Rattle.sequences.specs.View as sequences;
 ghost use Rattle.model.specs.Packet.{data-packet, sync-packet, discovery-packet};
@@ -13,13 +15,14 @@ ghost use Rattle.laws.specs.Lent.{untouched};
 ghost use Rattle.receiver.specs.View.{Memory, with-listened-rows, stateOf, KeptWaiting, KeptDiscovery, Kept, Begins, Becomes};
 ghost use Rattle.sequences.specs.Contracts.{sequence-rows-in};
 ghost use Rattle.receiver.specs.Contracts.{lent-in, lent, sequences-lent, waiting-lent, listened-lent, discovery-lent};
-ghost use Rattle.boundary.specs.Boundary.{receiverOf, mergeOf, settingsOf, packetIn, syncIn, announcedIn};
-ghost use Rattle.tamburelvi.specs.Promises.{Replies, Answers};
+ghost use Rattle.boundary.specs.Boundary.{receiverOf, settingsOf, packetIn, syncIn, announcedIn};
+ghost use Rattle.tamburelvi.specs.Promises.{Replies, Answers, StoresSettings, LoadsSettings};
 ghost use Rattle.model.specs.Step.{most-listened};
 
 pub mod read_outs;
 
 use boundary::Adjusted;
+use boundary::Answer;
 use boundary::Choices;
 use boundary::Data;
 use boundary::Header;
@@ -34,6 +37,8 @@ use boundary::heard_answer;
 use boundary::muted;
 use boundary::polled;
 use boundary::receiver_of;
+use boundary::records::loaded;
+use boundary::records::stored;
 use boundary::settings_of;
 use boundary::step_reply;
 use boundary::swept;
@@ -50,6 +55,9 @@ use listening::ListenedUniverses;
 use pair_rows::PairRows;
 use pair_rows::SourceRows;
 use receiver::Receiver;
+use settings_calls::load_settings;
+use settings_calls::store_settings;
+use settings_store::Layouts;
 use waiting_store::EntryRows;
 
 // A step on a data packet.
@@ -491,4 +499,32 @@ pub extern "C" fn tamburelvi_set_discovery_expiry(choices: Choices, expiry: u32)
     ensures left { λ r. ⌜ (r .number ≡ 20 → r .choices ≡ choices) ⌝ }
 {
     with_discovery_expiry(choices, expiry)
+}
+
+// Writes the record of the settings over the front of the lent bytes. 15 with 14 for fewer than 14 bytes, then 20 for an expiry out of range; each writes nothing. 14 cannot come: a limit of 0 is none here.
+#[no_mangle]
+pub extern "C" fn tamburelvi_store_settings(choices: Choices, bytes: &mut [u8]) -> Answer
+    ensures { λ r. ⌜ StoresSettings choices (now (bytes .entry)) r (now (bytes .exit)) ⌝ }
+{
+    let settings = settings_of(choices);
+    let a = store_settings(settings, bytes);
+    stored(a)
+}
+
+// Reads a record of layout 1 or 2. 22 and 23 leave the settings as they were.
+#[no_mangle]
+pub extern "C" fn tamburelvi_load_settings(choices: Choices, bytes: &[u8]) -> Adjusted
+    ensures { λ r. ⌜ LoadsSettings Both choices (now (bytes .entry)) r ⌝ }
+{
+    let a = load_settings(Layouts::Both, bytes);
+    loaded(choices, a)
+}
+
+// The reader that knows layout 1 alone: 23 for every record of layout 2.
+#[no_mangle]
+pub extern "C" fn tamburelvi_load_settings_layout_1(choices: Choices, bytes: &[u8]) -> Adjusted
+    ensures { λ r. ⌜ LoadsSettings First choices (now (bytes .entry)) r ⌝ }
+{
+    let a = load_settings(Layouts::First, bytes);
+    loaded(choices, a)
 }
