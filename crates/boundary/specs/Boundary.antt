@@ -184,10 +184,13 @@ storedOf storing.LimitZero = bareOf 14
 storedOf storing.ExpiryOutOfRange = bareOf 20
 
 -- its reader: the settings that were read, or the caller's as they were
+abbrev pub refusedOf : Choices → ℕ → Adjusted
+refusedOf c n = record { choices = c; number = n }
+
 abbrev pub loadedOf : Choices → LoadSettingsAnswer → Adjusted
 loadedOf c (loading.Loaded s) = record { choices = choicesOf s; number = 0 }
-loadedOf c loading.NoSettingsRecord = record { choices = c; number = 22 }
-loadedOf c loading.UnreadableSettingsRecord = record { choices = c; number = 23 }
+loadedOf c loading.NoSettingsRecord = refusedOf c 22
+loadedOf c loading.UnreadableSettingsRecord = refusedOf c 23
 
 -- what a step leaves and answers
 abbrev pub replyOf : Handled → Reply

@@ -1,6 +1,6 @@
 // Settings records over the C boundary: the writer's answer, and the settings that the reader leaves.
 ghost use mathlib.Core.Path.{_≡_};
-ghost use Rattle.boundary.specs.Boundary.{choicesOf, storedOf, loadedOf};
+ghost use Rattle.boundary.specs.Boundary.{choicesOf, storedOf, refusedOf, loadedOf};
 use crate::Adjusted;
 use crate::Answer;
 use crate::Choices;
@@ -41,6 +41,13 @@ pub fn stored(a: StoreSettingsAnswer) -> Answer
     }
 }
 
+// The caller's settings as they were.
+fn refused(choices: Choices, number: u8) -> Adjusted
+    ensures { λ r. ⌜ r ≡ refusedOf choices number ⌝ }
+{
+    Adjusted { choices, number }
+}
+
 // The settings that were read; on a stop the caller's, as they were.
 pub fn loaded(choices: Choices, a: LoadSettingsAnswer) -> Adjusted
     ensures { λ r. ⌜ r ≡ loadedOf choices a ⌝ }
@@ -53,13 +60,7 @@ pub fn loaded(choices: Choices, a: LoadSettingsAnswer) -> Adjusted
                 number: 0,
             }
         }
-        LoadSettingsAnswer::NoSettingsRecord => Adjusted {
-            choices: choices,
-            number: 22,
-        },
-        LoadSettingsAnswer::UnreadableSettingsRecord => Adjusted {
-            choices: choices,
-            number: 23,
-        },
+        LoadSettingsAnswer::NoSettingsRecord => refused(choices, 22),
+        LoadSettingsAnswer::UnreadableSettingsRecord => refused(choices, 23),
     }
 }

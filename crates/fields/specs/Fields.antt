@@ -3,7 +3,7 @@
 -- Assumes nothing.
 use mathlib.Core.Path.{_≡_, refl, sym, ap, _∙_}
 use mathlib.Core.Bool.{Bool, true, false, cond}
-use mathlib.Core.List.{List, [], _∷_, _++_, append-assoc, append-nil}
+use mathlib.Core.List.{List, [], _∷_, _++_, map, append-assoc}
 use Prim.Native.Nat.{ℕ, zero, suc, _+_, _^_, _≤_, _<_}
 use native.Mathlib.Omega.{arith}
 use native.Mathlib.Nat.{mod-eq-of-lt}
@@ -57,6 +57,21 @@ decode (f ∷ fs) bs =
     let v = number (take (f .width) bs) in
     cond (ltb (length bs) (f .width)) short
     (cond (f .allows v) (with-value v (decode fs (drop (f .width) bs))) out-of-range)
+
+-- ── in numbers, before the laws ──
+-- a field of one byte, 0 or 1, and one of two bytes
+two-fields : List Field
+two-fields = record { width = 1; allows = λ n. ltb n 2 } ∷ record { width = 2; allows = λ n. true } ∷ []
+
+-- most significant byte first, nothing behind the fields looked at, the first fault from left to right
+decoded-rows : map (decode two-fields) ((1 ∷ 2 ∷ 3 ∷ []) ∷ (0 ∷ 0 ∷ 255 ∷ 9 ∷ []) ∷ (2 ∷ 2 ∷ 3 ∷ []) ∷ (2 ∷ []) ∷ (1 ∷ 2 ∷ []) ∷ [] ∷ [])
+    ≡ values (1 ∷ 515 ∷ []) ∷ values (0 ∷ 255 ∷ []) ∷ out-of-range ∷ out-of-range ∷ short ∷ short ∷ []
+unfolding two-fields decode number
+decoded-rows = refl
+
+encoded-row : encode two-fields (1 ∷ 515 ∷ []) ≡ 1 ∷ 2 ∷ 3 ∷ []
+unfolding two-fields encode bigEndian
+encoded-row = refl
 
 -- ── laws ──
 -- values that fit take the fields' bytes

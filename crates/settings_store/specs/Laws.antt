@@ -11,7 +11,7 @@ use lib.Dec.{eqb, ltb, leb}
 use lib.ListN.{length, take, drop, getD, length-append, length-drop}
 use lib.Seq.{getD-drop}
 use borrow.Author.Tests.{eq-eqb, eqb-true, eqb-false, ne-eqb, ltb-true, ltb-false, lt-ltb, le-ltb, leb-true, leb-false}
-use Rattle.laws.specs.Cases.{split, found}
+use Rattle.laws.specs.Cases.{split, clash, found}
 use Rattle.rules.specs.Bytes.{Bytes, number, bigEndian, bit}
 use Rattle.fields.specs.Fields.{Field, size, Fit, encode, Decoded, values, short, out-of-range, with-value, decode, joined, decode-front, decode-none, decode-append, length-encode, decode-encode, decode-fits, encode-decode, encode-append, fit-append, fit-length}
 use Rattle.settings.specs.declared.Settings.{Settings}
@@ -19,7 +19,7 @@ use Rattle.settings.specs.declared.MergeChoice.{MergeChoice}
 use Rattle.settings.specs.declared.MergeChoice.the-variants.{DiscardLowestPriorityThenPrevious, HtpDmxMerge}
 use Rattle.settings.specs.declared.SourceLimit.{SourceLimit}
 use Rattle.settings.specs.declared.SourceLimit.the-variants.{Unlimited, AtMost}
-use Rattle.settings.specs.Settings.{settings, in-range, range-proper, Proper, Proper-limit}
+use Rattle.settings.specs.Settings.{settings, in-range, range-proper, proper-range, Proper, Proper-limit}
 use Rattle.settings_store.specs.declared.Layouts.{Layouts}
 use Rattle.settings_store.specs.declared.Layouts.the-variants.{First, Both}
 use Rattle.settings_store.specs.declared.StoreSettingsAnswer.{StoreSettingsAnswer}
@@ -211,6 +211,20 @@ known Both n fs h one two =
 abbrev pub as-layout-2 : ℕ → List ℕ → List ℕ
 as-layout-2 n rest = cond (eqb n 1) (take (size layout-1) rest ++ encode (expiry ∷ []) (20000 ∷ [])) (take (size layout-2) rest)
 
+pub eleven-long : size layout-2 ≡ 11
+unfolding size
+eleven-long = refl
+
+-- what stands before the fields
+three-bytes : (bytes : List ℕ) → 3 ≤ length bytes → marked bytes ≡ true → getD bytes 2 0 ≡ 2 → take record-length bytes ≡ 0x53 ∷ 0x54 ∷ 2 ∷ take 11 (drop 3 bytes)
+three-bytes [] h m e = absurd (omega arith)
+three-bytes (a ∷ []) h m e = absurd (omega arith)
+three-bytes (a ∷ b ∷ []) h m e = absurd (omega arith)
+three-bytes (a ∷ b ∷ c ∷ rest) h m e =
+    split (eqb a 0x53)
+    (λ x. let y : eqb b 0x54 ≡ true = rw x at m in λ i. eqb-true a 0x53 x i ∷ eqb-true b 0x54 y i ∷ e i ∷ take 11 rest)
+    (λ x. let y : false ≡ true = rw x at m in clash y refl)
+
 -- a record that was taken, of either layout: values of layout 2 whose bytes those are
 module _ {ℓ} {C : Type ℓ} (layouts : Layouts) (bytes : List ℕ) (s : Settings) (p : Bytes (drop 3 bytes)) (h : loaded layouts bytes ≡ Loaded s) where
   taken-as-2 : ((ws : List ℕ) → Fit layout-2 ws → s ≡ settingsFrom ws → encode layout-2 ws ≡ as-layout-2 (getD bytes 2 0) (drop 3 bytes) → C) → C
@@ -236,3 +250,14 @@ module _ (layouts : Layouts) (bytes : List ℕ) (s : Settings) (p : Bytes (drop 
   -- "what the reader takes, written again, is the same record up to layout and the bytes behind it"
   pub taken-again : recordOf s ≡ 0x53 ∷ 0x54 ∷ 2 ∷ as-layout-2 (getD bytes 2 0) (drop 3 bytes)
   taken-again = taken-as-2 layouts bytes s p h (λ ws fit q e. rw (q, values-back ws fit, e))
+
+  -- the writer does not stop at them, if the bytes are enough
+  pub taken-stored : (n : ℕ) → record-length ≤ n → store-answer s n ≡ Stored
+  taken-stored n h = rw (le-ltb n record-length h, proper-limit (s .«source_limit») (taken-proper .0), proper-range (s .«discovery_expiry») (taken-proper .1))
+
+-- a record of layout 2 is written again byte for byte
+pub taken-same : (bytes : List ℕ) (s : Settings) → Bytes (drop 3 bytes) → loaded Both bytes ≡ Loaded s → getD bytes 2 0 ≡ 2 → recordOf s ≡ take record-length bytes
+taken-same bytes s p h two =
+    taken Both bytes s h
+    (λ fs vs three m f d q.
+    taken-again Both bytes s p h ∙ (rw (two, eleven-long)) ∙ sym (three-bytes bytes three m two))

@@ -1,22 +1,22 @@
 -- Document 02, F-6: settings in lent bytes. "A record is the mark 53 54 (hexadecimal), a layout byte, then the fields. .. Numbers are big-endian."
 -- Assumes nothing.
-use mathlib.Core.Path.{_≡_}
+use mathlib.Core.Path.{_≡_, refl}
 use mathlib.Core.Bool.{Bool, true, false, cond, not, _&&_}
 use mathlib.Core.Option.{Option, none, some}
-use mathlib.Core.List.{List, [], _∷_, _++_}
+use mathlib.Core.List.{List, [], _∷_, _++_, map}
 use Prim.Native.Nat.{ℕ, _≤_}
 use lib.Dec.{eqb, ltb, leb}
-use lib.ListN.{length, drop, getD}
+use lib.ListN.{length, drop, getD, replicate}
 use Rattle.rules.specs.Answer.{Value}
 use Rattle.rules.specs.Answer as answer
-use Rattle.rules.specs.Bytes.{bit}
+use Rattle.rules.specs.Bytes.{bit, number, bigEndian}
 use Rattle.fields.specs.Fields.{Field, size, encode, Decoded, values, short, out-of-range, decode}
 use Rattle.settings.specs.declared.Settings.{Settings}
 use Rattle.settings.specs.declared.MergeChoice.{MergeChoice}
 use Rattle.settings.specs.declared.MergeChoice.the-variants.{DiscardLowestPriorityThenPrevious, HtpDmxMerge}
 use Rattle.settings.specs.declared.SourceLimit.{SourceLimit}
 use Rattle.settings.specs.declared.SourceLimit.the-variants.{Unlimited, AtMost}
-use Rattle.settings.specs.Settings.{settings, in-range, Proper}
+use Rattle.settings.specs.Settings.{settings, fresh, in-range, Proper}
 use Rattle.settings_store.specs.declared.Layouts.{Layouts}
 use Rattle.settings_store.specs.declared.Layouts.the-variants.{First, Both}
 use Rattle.settings_store.specs.declared.StoreSettingsAnswer.{StoreSettingsAnswer}
@@ -176,3 +176,127 @@ pub record Stores (s : Settings) (before : List ℕ) (r : StoreSettingsAnswer) (
 pub record Loads (layouts : Layouts) (bytes : List ℕ) (r : LoadSettingsAnswer) : Type 0 where
   pub answer-is : r ≡ loaded layouts bytes
   pub proper : (s : Settings) → r ≡ Loaded s → Proper s
+
+-- ── in numbers: every row is computed, and stands before the laws ──
+-- records byte by byte
+fresh-record : recordOf fresh ≡ 0x53 ∷ 0x54 ∷ 2 ∷ 0 ∷ 0 ∷ 0 ∷ 0 ∷ 0 ∷ 0 ∷ 0 ∷ 0 ∷ 0 ∷ 0x4E ∷ 0x20 ∷ []
+unfolding encode bigEndian
+fresh-record = refl
+
+-- preview, discovery, termination, timeout, one at a time
+one-flag : map recordOf
+    (settings true false false false DiscardLowestPriorityThenPrevious Unlimited 2500
+    ∷ settings false true false false DiscardLowestPriorityThenPrevious Unlimited 2500
+    ∷ settings false false true false DiscardLowestPriorityThenPrevious Unlimited 2500
+    ∷ settings false false false true DiscardLowestPriorityThenPrevious Unlimited 2500 ∷ [])
+    ≡ (0x53 ∷ 0x54 ∷ 2 ∷ 1 ∷ 0 ∷ 0 ∷ 0 ∷ 0 ∷ 0 ∷ 0 ∷ 0 ∷ 0 ∷ 0x09 ∷ 0xC4 ∷ [])
+    ∷ (0x53 ∷ 0x54 ∷ 2 ∷ 0 ∷ 1 ∷ 0 ∷ 0 ∷ 0 ∷ 0 ∷ 0 ∷ 0 ∷ 0 ∷ 0x09 ∷ 0xC4 ∷ [])
+    ∷ (0x53 ∷ 0x54 ∷ 2 ∷ 0 ∷ 0 ∷ 1 ∷ 0 ∷ 0 ∷ 0 ∷ 0 ∷ 0 ∷ 0 ∷ 0x09 ∷ 0xC4 ∷ [])
+    ∷ (0x53 ∷ 0x54 ∷ 2 ∷ 0 ∷ 0 ∷ 0 ∷ 1 ∷ 0 ∷ 0 ∷ 0 ∷ 0 ∷ 0 ∷ 0x09 ∷ 0xC4 ∷ []) ∷ []
+unfolding encode bigEndian
+one-flag = refl
+
+-- most significant byte first
+numbers-in : map recordOf (settings false false false false HtpDmxMerge (AtMost 513) 60000 ∷ settings false false false false HtpDmxMerge (AtMost 65535) 2500 ∷ [])
+    ≡ (0x53 ∷ 0x54 ∷ 2 ∷ 0 ∷ 0 ∷ 0 ∷ 0 ∷ 1 ∷ 2 ∷ 1 ∷ 0 ∷ 0 ∷ 0xEA ∷ 0x60 ∷ [])
+    ∷ (0x53 ∷ 0x54 ∷ 2 ∷ 0 ∷ 0 ∷ 0 ∷ 0 ∷ 1 ∷ 0xFF ∷ 0xFF ∷ 0 ∷ 0 ∷ 0x09 ∷ 0xC4 ∷ []) ∷ []
+unfolding encode bigEndian
+numbers-in = refl
+
+-- the writer
+written : SourceLimit → ℕ → ℕ → ℕ
+written l e n = storeNumber (store-answer (settings false false false false HtpDmxMerge l e) n)
+
+-- 15, then 14, then 20
+store-order : written (AtMost 0) 2499 13 ∷ written (AtMost 0) 2499 14 ∷ written (AtMost 1) 2499 14 ∷ written (AtMost 1) 2500 14 ∷ []
+    ≡ 15 ∷ 14 ∷ 20 ∷ 0 ∷ []
+unfolding written
+store-order = refl
+
+-- 20 by the setter's range
+store-range : map (λ e. written Unlimited e 14) (2499 ∷ 2500 ∷ 60000 ∷ 60001 ∷ []) ≡ 20 ∷ 0 ∷ 0 ∷ 20 ∷ []
+unfolding written
+store-range = refl
+
+-- "15 with 14", and the length is the record's
+store-needs : (store-answer fresh 13 ≡ TooShort 14) × (length (recordOf fresh) ≡ record-length)
+unfolding encode bigEndian
+store-needs = (refl, refl)
+
+-- a stop writes nothing, a record leaves the bytes behind it
+store-leaves : (store-bytes (settings false false false false HtpDmxMerge (AtMost 0) 2500) (replicate 15 0xCC) ≡ replicate 15 0xCC)
+    × (store-bytes (settings false false false false HtpDmxMerge Unlimited 2499) (replicate 15 0xCC) ≡ replicate 15 0xCC)
+    × (store-bytes fresh (replicate 13 0xCC) ≡ replicate 13 0xCC)
+    × (store-bytes fresh (replicate 16 0xCC) ≡ recordOf fresh ++ 0xCC ∷ 0xCC ∷ [])
+unfolding encode bigEndian
+store-leaves = (refl, refl, refl, refl)
+
+-- the readers
+number-both : List ℕ → ℕ
+number-both bytes = loadNumber (loaded Both bytes)
+
+number-first : List ℕ → ℕ
+number-first bytes = loadNumber (loaded First bytes)
+
+-- under three bytes; a wrong mark; an unknown layout, in three bytes too
+load-front : map number-both
+    ([]
+    ∷ (0x53 ∷ [])
+    ∷ (0x53 ∷ 0x54 ∷ [])
+    ∷ (0x54 ∷ 0x54 ∷ 0 ∷ [])
+    ∷ (0x53 ∷ 0x53 ∷ 0 ∷ [])
+    ∷ (0x53 ∷ 0x54 ∷ 0 ∷ [])
+    ∷ (0x53 ∷ 0x54 ∷ 3 ∷ [])
+    ∷ (0x53 ∷ 0x54 ∷ 255 ∷ 2 ∷ 2 ∷ 2 ∷ 2 ∷ 2 ∷ 2 ∷ 2 ∷ 2 ∷ 2 ∷ 2 ∷ 2 ∷ []) ∷ [])
+    ≡ 22 ∷ 22 ∷ 22 ∷ 22 ∷ 22 ∷ 23 ∷ 23 ∷ 23 ∷ []
+unfolding number-both decode number size
+load-front = refl
+
+-- fewer bytes than the layout needs, whatever the fields there hold
+load-short : map number-both
+    ((0x53 ∷ 0x54 ∷ 1 ∷ [])
+    ∷ (0x53 ∷ 0x54 ∷ 2 ∷ [])
+    ∷ (0x53 ∷ 0x54 ∷ 1 ∷ 2 ∷ 0 ∷ 0 ∷ 0 ∷ 0 ∷ 0 ∷ [])
+    ∷ (0x53 ∷ 0x54 ∷ 2 ∷ 2 ∷ 0 ∷ 0 ∷ 0 ∷ 0 ∷ 0 ∷ 0 ∷ 0 ∷ 0 ∷ 0x09 ∷ []) ∷ [])
+    ≡ 22 ∷ 22 ∷ 22 ∷ 22 ∷ []
+unfolding number-both decode number size
+load-short = refl
+
+-- a flag or merge byte over 1, an expiry out of range
+load-range : map number-both
+    ((0x53 ∷ 0x54 ∷ 1 ∷ 2 ∷ 0 ∷ 0 ∷ 0 ∷ 0 ∷ 0 ∷ 0 ∷ [])
+    ∷ (0x53 ∷ 0x54 ∷ 1 ∷ 0 ∷ 2 ∷ 0 ∷ 0 ∷ 0 ∷ 0 ∷ 0 ∷ [])
+    ∷ (0x53 ∷ 0x54 ∷ 1 ∷ 0 ∷ 0 ∷ 2 ∷ 0 ∷ 0 ∷ 0 ∷ 0 ∷ [])
+    ∷ (0x53 ∷ 0x54 ∷ 1 ∷ 0 ∷ 0 ∷ 0 ∷ 2 ∷ 0 ∷ 0 ∷ 0 ∷ [])
+    ∷ (0x53 ∷ 0x54 ∷ 1 ∷ 0 ∷ 0 ∷ 0 ∷ 0 ∷ 2 ∷ 0 ∷ 0 ∷ [])
+    ∷ (0x53 ∷ 0x54 ∷ 2 ∷ 0 ∷ 0 ∷ 0 ∷ 0 ∷ 0 ∷ 0 ∷ 0 ∷ 0 ∷ 0 ∷ 0x09 ∷ 0xC3 ∷ [])
+    ∷ (0x53 ∷ 0x54 ∷ 2 ∷ 0 ∷ 0 ∷ 0 ∷ 0 ∷ 0 ∷ 0 ∷ 0 ∷ 0 ∷ 0 ∷ 0xEA ∷ 0x61 ∷ []) ∷ [])
+    ≡ 23 ∷ 23 ∷ 23 ∷ 23 ∷ 23 ∷ 23 ∷ 23 ∷ []
+unfolding number-both decode number size
+load-range = refl
+
+-- what is read: layout 1 with 20,000; a limit of 0 as none; bytes behind the last field not looked at
+load-taken : map (loaded Both)
+    ((0x53 ∷ 0x54 ∷ 1 ∷ 0 ∷ 1 ∷ 0 ∷ 0 ∷ 1 ∷ 0 ∷ 0 ∷ [])
+    ∷ (0x53 ∷ 0x54 ∷ 1 ∷ 0 ∷ 0 ∷ 1 ∷ 0 ∷ 0 ∷ 2 ∷ 1 ∷ 0xFF ∷ 0xFF ∷ [])
+    ∷ (0x53 ∷ 0x54 ∷ 2 ∷ 1 ∷ 0 ∷ 0 ∷ 0 ∷ 0 ∷ 0 ∷ 0 ∷ 0 ∷ 0 ∷ 0x09 ∷ 0xC4 ∷ [])
+    ∷ (0x53 ∷ 0x54 ∷ 2 ∷ 0 ∷ 0 ∷ 0 ∷ 1 ∷ 1 ∷ 0xFF ∷ 0xFF ∷ 0 ∷ 0 ∷ 0xEA ∷ 0x60 ∷ 2 ∷ []) ∷ [])
+    ≡ Loaded (settings false true false false HtpDmxMerge Unlimited 20000)
+    ∷ Loaded (settings false false true false DiscardLowestPriorityThenPrevious (AtMost 513) 20000)
+    ∷ Loaded (settings true false false false DiscardLowestPriorityThenPrevious Unlimited 2500)
+    ∷ Loaded (settings false false false true HtpDmxMerge (AtMost 65535) 60000) ∷ []
+unfolding decode number size
+load-taken = refl
+
+-- the reader that knows layout 1 alone: layout 1 as above; 23 on every record of layout 2, short or out of range too
+load-first : map number-first
+    ((0x53 ∷ 0x54 ∷ 1 ∷ 0 ∷ 1 ∷ 0 ∷ 0 ∷ 1 ∷ 0 ∷ 0 ∷ [])
+    ∷ (0x53 ∷ 0x54 ∷ 1 ∷ 0 ∷ 1 ∷ 0 ∷ 0 ∷ 1 ∷ 0 ∷ [])
+    ∷ (0x53 ∷ 0x54 ∷ 2 ∷ [])
+    ∷ (0x53 ∷ 0x54 ∷ 2 ∷ 1 ∷ 0 ∷ 0 ∷ 0 ∷ 0 ∷ 0 ∷ 0 ∷ 0 ∷ 0 ∷ 0x09 ∷ 0xC4 ∷ [])
+    ∷ (0x53 ∷ 0x54 ∷ 2 ∷ 2 ∷ 0 ∷ 0 ∷ 0 ∷ 0 ∷ 0 ∷ 0 ∷ 0 ∷ 0 ∷ 0x09 ∷ [])
+    ∷ (0x53 ∷ 0x54 ∷ [])
+    ∷ (0x53 ∷ 0x55 ∷ 1 ∷ []) ∷ [])
+    ≡ 0 ∷ 22 ∷ 23 ∷ 23 ∷ 23 ∷ 22 ∷ 22 ∷ []
+unfolding number-first decode number size
+load-first = refl

@@ -27,7 +27,7 @@ use Rattle.settings_store.specs.declared.StoreSettingsAnswer.the-variant
 use Rattle.settings_store.specs.declared.LoadSettingsAnswer.{LoadSettingsAnswer}
 use Rattle.settings_store.specs.declared.LoadSettingsAnswer.the-variants.{Loaded, NoSettingsRecord, UnreadableSettingsRecord}
 use Rattle.settings_store.specs.Record.{flag, limit, expiry, layout-1, layout-2, mergeNumber, mergeOf, limitNumber, limitOf, valuesOf, settingsFrom, recordOf, record-length, zero-limit, store-answer, left-by, store-bytes, fields-of, marked, shown, of-layout, loaded, Restores, Stores, Loads}
-use Rattle.settings_store.specs.Laws.{bit-small, merge-small, Narrow, record-restores, stopped-left, taken-proper}
+use Rattle.settings_store.specs.Laws.{bit-small, merge-small, Narrow, record-restores, stopped-left, eleven-long, taken-proper}
 
 -- ── a record byte by byte ──
 one-byte : (v : ℕ) → v < 256 → bigEndian 1 v ≡ v ∷ []
@@ -125,10 +125,6 @@ module _ (a b c d m x y : ℕ) (rest : List ℕ) where
 seven-long : size layout-1 ≡ 7
 unfolding size
 seven-long = refl
-
-eleven-long : size layout-2 ≡ 11
-unfolding size
-eleven-long = refl
 
 -- enough bytes for layout 1
 pub decode-first : (bs : List ℕ) → 7 ≤ length bs

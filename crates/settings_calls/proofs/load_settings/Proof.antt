@@ -15,7 +15,7 @@ use Rattle.settings_calls.proofs.load_settings.Statement.{statement}
 use Rattle.settings_calls.proofs.load_settings.Tie as tie
 
 returns : tie.Need-returns
-returns c = loads-short (c .before .before .args .layouts) (c .before .before .args .bytes .now) (c .if1 .taken)
+returns c = loads-short (c .before .before .args .layouts) (c .before .before .args .bytes .now) (omega (arith, c .if1 .taken))
 
 shared-slice-read-is-marked : tie.Need-shared-slice-read-is-marked
 shared-slice-read-is-marked c = search needs
@@ -53,7 +53,7 @@ returns-2 c =
     let s = e .before .before in
     let b = s .args .bytes .now in
     let k = e .before .shared-slice-known .given in
-    loads-fields (s .args .layouts) b (c .read-layout .result) (layoutFields (l .layout-of .result)) (all-bytes (drop 3 b) (λ i. rw (getD-drop 3 b i 0) (omega (arith, k (3 + i))))) (e .if1 .left) (sym (m .is-marked .ensures) ∙ t .if2 .taken) (l .layout-of .ensures)
+    loads-fields (s .args .layouts) b (c .read-layout .result) (layoutFields (l .layout-of .result)) (all-bytes (drop 3 b) (λ i. rw (getD-drop 3 b i 0) (omega (arith, k (3 + i))))) (omega (arith, e .if1 .left)) (sym (m .is-marked .ensures) ∙ t .if2 .taken) (l .layout-of .ensures)
     (c .read-layout .ensures ∙ ap (λ (p : List ℕ). of-layout (layoutFields (l .layout-of .result)) p) (part-rest b 3))
 
 returns-3 : tie.Need-returns-3
@@ -61,7 +61,7 @@ returns-3 c =
     let m = c .before in
     let e = m .before .before .before in
     let s = e .before .before in
-    loads-unmarked (s .args .layouts) (s .args .bytes .now) (e .if1 .left) (sym (m .is-marked .ensures) ∙ c .if2 .left)
+    loads-unmarked (s .args .layouts) (s .args .bytes .now) (omega (arith, e .if1 .left)) (sym (m .is-marked .ensures) ∙ c .if2 .left)
 
 pub load-settings-spec : {M : Type 1} → statement M
 load-settings-spec =
