@@ -50,6 +50,7 @@ end() { # WHAT: the last line
 }
 
 # The scripts, and the answers that the proved program gives to them: the recorded sample, document 01's trial values, random lines.
+# A line that puts a limit of 0 into the settings is left out: in C that is no limit, and the sample has none.
 loader=/lib64/ld-linux-x86-64.so.2
 scripts() {
   local replay=${TAMBURELVI_REPLAY:-target/bin/replay} kind n differ=target/differential/cargo/release/differ
@@ -61,16 +62,16 @@ scripts() {
   rm -rf "$made/scripts" && mkdir -p "$made/scripts"
   cp crates/replay/stdin "$made/scripts/sample"
   cp crates/replay/stdout "$made/scripts/sample.answers"
-  cp differential/trials.script "$made/scripts/trials"
+  grep -v '^raw_limit 00*$' differential/trials.script >"$made/scripts/trials"
   for kind in $("$differ" kinds | cut -d: -f1); do
     for n in $(seq 60); do "$differ" script "$kind" 1 "$n"; done
-  done >"$made/scripts/random"
+  done | grep -v '^raw_limit 00*$' >"$made/scripts/random"
   for n in trials random; do "$loader" "$replay" <"$made/scripts/$n" >"$made/scripts/$n.answers"; done
   n=$(wc -l <"$made/scripts/random")
   [ "$n" -ge 80000 ] || { echo "only $n random lines"; return 1; }
   [ "$(wc -l <"$made/scripts/trials.answers")" -ge 90 ] || { echo "no answers to the trial values"; return 1; }
-  # Three lines that the answers have to have: a release, a refused merge, the whole state's end.
-  for n in '^0 release ' '^8$' '^\.$'; do grep -q "$n" "$made/scripts/random.answers" || { echo "no answer $n"; return 1; }; done
+  # Lines that the answers have to have: a release, a refused merge, the whole state's end, a settings record, each refusal of one.
+  for n in '^0 release ' '^8$' '^\.$' '^0 535402' '^22$' '^23$'; do grep -q "$n" "$made/scripts/random.answers" || { echo "no answer $n"; return 1; }; done
   echo "the proved program's answers to $(wc -l <"$made/scripts/sample") lines of the sample, $(wc -l <"$made/scripts/trials") of trial values, $(wc -l <"$made/scripts/random") random ones"
 }
 # The answers of a program, by a command that takes the script's name and writes the answers to a file: held to the proved program's.

@@ -10,15 +10,18 @@
 #define STACK 65536
 #define PATTERN 0xA5
 
-enum { NOTHING, DATA, SYNC, PAGE, POLL, EXPIRE, LISTEN, MUTE, LISTENS, CLEAR, CLEAR_ALL, RESET_PAIRS, RESET_DISCOVERY, RESET_SOURCES, START, KINDS };
+enum { NOTHING, DATA, SYNC, PAGE, POLL, EXPIRE, LISTEN, MUTE, LISTENS, CLEAR, CLEAR_ALL, RESET_PAIRS, RESET_DISCOVERY, RESET_SOURCES, STORE_SETTINGS,
+    LOAD_SETTINGS, LOAD_SETTINGS_LAYOUT_1, START, KINDS };
 static const char *const names[KINDS] = {"(none)", "handle_data_packet", "handle_sync_packet", "handle_universe_discovery_packet", "poll",
     "remove_expired_sources", "listen_universes", "mute_universe", "is_listening", "clear_waiting_data", "clear_all_waiting_data", "reset_pairs",
-    "reset_discovery", "reset_sources", "new"};
+    "reset_discovery", "reset_sources", "store_settings", "load_settings", "load_settings_layout_1", "new"};
 
 static tamburelvi_receiver receiver;
 static uint8_t out[TAMBURELVI_OUTPUT], values[TAMBURELVI_VALUES], name[TAMBURELVI_NAME];
 static uint16_t list[1100];
 static size_t list_length;
+static uint8_t record[TAMBURELVI_SETTINGS_RECORD];
+static size_t record_length;
 static uint64_t reading = 1000;
 static tamburelvi_data_packet data;
 static tamburelvi_sync_packet sync_packet;
@@ -43,9 +46,12 @@ static void clear_all(void) { answer = tamburelvi_receiver_clear_all_waiting_dat
 static void reset_pairs(void) { answer = tamburelvi_receiver_reset_pairs(&receiver); }
 static void reset_discovery(void) { answer = tamburelvi_receiver_reset_discovery(&receiver); }
 static void reset_sources(void) { answer = tamburelvi_receiver_reset_sources(&receiver); }
+static void store(void) { answer = tamburelvi_receiver_store_settings(&receiver, record, record_length); }
+static void load(void) { answer = tamburelvi_receiver_load_settings(&receiver, record, record_length); }
+static void load_layout_1(void) { answer = tamburelvi_receiver_load_settings_layout_1(&receiver, record, record_length); }
 static void start(void) { answer = tamburelvi_receiver_new(&receiver); }
 static void (*const call[KINDS])(void) = {nothing, take_data, take_sync, take_page, poll, remove_expired, listen, mute, listens, clear, clear_all, reset_pairs,
-    reset_discovery, reset_sources, start};
+    reset_discovery, reset_sources, store, load, load_layout_1, start};
 
 static void carry_out(int k) {
     memset(stack, PATTERN, STACK);
@@ -114,6 +120,16 @@ int main(void) {
                 for (size_t j = 0; j < list_length; j++) list[j] = (uint16_t)(1 + below(90));
                 carry_out(PAGE);
                 break;
+            case 17: { // a record of the settings, loaded as it was stored or with another layout or byte; the run goes on by its own settings
+                tamburelvi_settings own = receiver.settings;
+                record_length = below(8) ? sizeof record : below(sizeof record);
+                carry_out(STORE_SETTINGS);
+                if (below(2)) record[2] = 1;
+                if (below(4) == 0) record[3 + below(5)] = 2;
+                carry_out(below(2) ? LOAD_SETTINGS : LOAD_SETTINGS_LAYOUT_1);
+                receiver.settings = own;
+                break;
+            }
             default:
                 data = (tamburelvi_data_packet){.universe = universe, .address = address, .priority = (uint8_t)(100 + below(2)),
                     .sequence = (uint8_t)i, .preview = below(30) == 0, .terminated = below(30) == 0, .values = values};

@@ -15,9 +15,11 @@ static uint8_t beside[2 + TAMBURELVI_OUTPUT + 2];
 
 /* ---- what is printed ---- */
 
-static void print_cid(const uint8_t cid[TAMBURELVI_CID]) {
-    for (int i = 0; i < TAMBURELVI_CID; i++) printf("%02x", cid[i]);
+static void print_bytes(const uint8_t *bytes, size_t length) {
+    for (size_t i = 0; i < length; i++) printf("%02x", bytes[i]);
 }
+
+static void print_cid(const uint8_t cid[TAMBURELVI_CID]) { print_bytes(cid, TAMBURELVI_CID); }
 
 static void show(const char *call, tamburelvi_answer a) {
     uint8_t cid[TAMBURELVI_CID];
@@ -127,10 +129,15 @@ static void show_state(void) {
     show_sources();
 }
 
+static void print_settings(tamburelvi_settings s) {
+    printf("%d %d %d %d %d %d %lu", s.process_preview_data, s.announce_source_discovery, s.announce_stream_termination,
+        s.announce_timeout, s.merge, s.source_limit, (unsigned long)s.discovery_expiry);
+}
+
 static void show_settings(void) {
-    const tamburelvi_settings *s = &receiver.settings;
-    printf("  settings: %d %d %d %d %d %d %lu\n", s->process_preview_data, s->announce_source_discovery,
-        s->announce_stream_termination, s->announce_timeout, s->merge, s->source_limit, (unsigned long)s->discovery_expiry);
+    printf("  settings: ");
+    print_settings(receiver.settings);
+    printf("\n");
 }
 
 /* ---- packets ---- */
@@ -222,19 +229,30 @@ static void unmade(const char *which, tamburelvi_receiver *q) {
         tamburelvi_receiver_clear_waiting_data(q, 1).number, tamburelvi_receiver_clear_all_waiting_data(q).number,
         tamburelvi_receiver_reset_pairs(q).number, tamburelvi_receiver_reset_discovery(q).number,
         tamburelvi_receiver_reset_sources(q).number);
-    printf(", settings %d %d %d %d %d %d %d %d %d", tamburelvi_receiver_fresh_settings(q).number,
+    printf(", settings %d %d %d %d %d %d %d %d %d %d %d %d", tamburelvi_receiver_fresh_settings(q).number,
         tamburelvi_receiver_set_process_preview_data(q, true).number,
         tamburelvi_receiver_set_announce_source_discovery(q, true).number,
         tamburelvi_receiver_set_announce_stream_termination(q, true).number,
         tamburelvi_receiver_set_announce_timeout(q, true).number,
         tamburelvi_receiver_set_merge(q, TAMBURELVI_HTP_DMX_MERGE).number, tamburelvi_receiver_clear_source_limit(q).number,
-        tamburelvi_receiver_set_source_limit(q, 1).number, tamburelvi_receiver_set_discovery_expiry(q, 2500).number);
+        tamburelvi_receiver_set_source_limit(q, 1).number, tamburelvi_receiver_set_discovery_expiry(q, 2500).number,
+        tamburelvi_receiver_store_settings(q, out, sizeof out).number,
+        tamburelvi_receiver_load_settings(q, out, sizeof out).number,
+        tamburelvi_receiver_load_settings_layout_1(q, out, sizeof out).number);
     printf(", read-outs %d %d %d %d %d %d %d %d %d\n", tamburelvi_receiver_is_listening(q, 64214),
         tamburelvi_receiver_data_pair(q, 0, &pair), tamburelvi_receiver_sync_pair(q, 0, &pair),
         tamburelvi_receiver_data_source(q, 0, cid), tamburelvi_receiver_sync_source(q, 0, cid),
         tamburelvi_receiver_listened(q, 0, &universe), tamburelvi_receiver_waiting(q, 0, &record),
         tamburelvi_receiver_source_at(q, TAMBURELVI_LISTED, 0, &source),
         tamburelvi_receiver_page_at(q, &source, 0, &source_page));
+}
+
+/* The calls with a settings record. */
+static void unmade_records(const char *which, uint8_t *bytes, size_t length) {
+    printf("%s\n", which);
+    show("  stored", tamburelvi_receiver_store_settings(r, bytes, length));
+    show("  loaded", tamburelvi_receiver_load_settings(r, bytes, length));
+    show("  loaded by layout 1 alone", tamburelvi_receiver_load_settings_layout_1(r, bytes, length));
 }
 
 /* Null pointers and overlap with a started receiver; none of it changes anything. */
@@ -291,12 +309,17 @@ static void unmade_packets(void) {
         tamburelvi_receiver_handle_universe_discovery_packet(r, 0, &g, NULL, sizeof out));
     show("no list", tamburelvi_receiver_listen_universes(r, NULL, 1));
     show("a list in the receiver", tamburelvi_receiver_listen_universes(r, receiver.memory.heard.universe, 1));
+    unmade_records("no record", NULL, TAMBURELVI_SETTINGS_RECORD);
+    unmade_records("no record, by its length", NULL, 0);
+    unmade_records("a record in the receiver", receiver.memory.store, TAMBURELVI_SETTINGS_RECORD);
+    unmade_records("a record at the receiver's end", &receiver.memory.names.row[63][62], TAMBURELVI_SETTINGS_RECORD);
     printf("read-outs to nowhere: %d %d %d %d %d %d %d %d %d\n", tamburelvi_receiver_data_pair(r, 0, NULL),
         tamburelvi_receiver_sync_pair(r, 0, NULL), tamburelvi_receiver_data_source(r, 0, NULL),
         tamburelvi_receiver_sync_source(r, 0, NULL), tamburelvi_receiver_listened(r, 0, NULL),
         tamburelvi_receiver_waiting(r, 0, NULL), tamburelvi_receiver_source_at(r, TAMBURELVI_LISTED, 0, NULL),
         tamburelvi_receiver_page_at(r, NULL, 0, NULL), tamburelvi_receiver_page_at(r, &source, 0, NULL));
     show_state();
+    show_settings();
 }
 
 /* 'Further calls': all are tested for 2 before any is added; muting gives 2, then 3. */
@@ -850,6 +873,219 @@ static void library(void) {
     printf(" %zu %zu\n", h.sources - source.place, h.pages - source_page.place);
 }
 
+/* ---- document 02, F-6: settings records ---- */
+
+/* The writer on bytes that each hold cc: its answer, the bytes, and whether those on both sides of them still hold cc. */
+static void store(tamburelvi_settings s, size_t length) {
+    uint8_t lent[80];
+    bool around = true;
+    memset(lent, 0xcc, sizeof lent);
+    printf("%zu bytes", length);
+    show("", tamburelvi_store_settings(s, lent + 8, length));
+    for (size_t i = 0; i < sizeof lent; i++) around = around && (lent[i] == 0xcc || (i >= 8 && i < 8 + length));
+    printf("  '");
+    print_bytes(lent + 8, length);
+    printf("', cc around them: %d\n", around);
+}
+
+/* The settings before a record is read: in every field others than those of the records below. */
+static tamburelvi_settings before(void) {
+    tamburelvi_settings s = {false, true, false, true, 7, 9, 60001};
+    return s;
+}
+
+/* A record of the settings, and what is read from it. */
+static void keep(const char *what, tamburelvi_settings s) {
+    uint8_t kept[TAMBURELVI_SETTINGS_RECORD];
+    tamburelvi_answer stored;
+    tamburelvi_adjusted loaded;
+    memset(kept, 0xcc, sizeof kept);
+    stored = tamburelvi_store_settings(s, kept, sizeof kept);
+    loaded = tamburelvi_load_settings(before(), kept, sizeof kept);
+    printf("%s: %d ", what, stored.number);
+    print_bytes(kept, sizeof kept);
+    printf(", loaded: %d ", loaded.number);
+    print_settings(loaded.settings);
+    printf("\n");
+}
+
+/* 15 before 20, nothing written with either, and nothing behind the record; every field by itself, and all of them. A limit of
+ * 0 is none and gives no 14. */
+static void storing(void) {
+    static const uint32_t expiries[] = {0, 2499, 2500, 60000, 60001, 68036, 4294967295u};
+    static const uint16_t limits[] = {1, 255, 256, 258, 65535};
+    const tamburelvi_settings fresh = tamburelvi_fresh_settings();
+    tamburelvi_settings s = {true, false, true, false, 1, 258, 60000};
+    for (size_t length = 0; length <= 15; length++) store(s, length);
+    store(s, 64);
+    for (size_t i = 0; i < sizeof expiries / sizeof expiries[0]; i++) {
+        s.discovery_expiry = expiries[i];
+        printf("expiry %lu, ", (unsigned long)expiries[i]);
+        store(s, 14);
+    }
+    printf("the same, ");
+    store(s, 13);
+    printf("the same, ");
+    store(s, 64);
+    keep("fresh", fresh);
+    keep("preview", tamburelvi_set_process_preview_data(fresh, true));
+    keep("announce discoveries", tamburelvi_set_announce_source_discovery(fresh, true));
+    keep("announce terminations", tamburelvi_set_announce_stream_termination(fresh, true));
+    keep("announce timeouts", tamburelvi_set_announce_timeout(fresh, true));
+    keep("merge by highest value", tamburelvi_set_merge(fresh, TAMBURELVI_HTP_DMX_MERGE));
+    for (size_t i = 0; i < sizeof limits / sizeof limits[0]; i++) {
+        printf("limit %d, ", limits[i]);
+        keep("fresh", tamburelvi_set_source_limit(fresh, limits[i]).settings);
+    }
+    keep("expiry 2,500", tamburelvi_set_discovery_expiry(fresh, 2500).settings);
+    keep("expiry 43,981", tamburelvi_set_discovery_expiry(fresh, 43981).settings);
+    keep("expiry 60,000", tamburelvi_set_discovery_expiry(fresh, 60000).settings);
+    s = before();
+    s.source_limit = 0;
+    s.discovery_expiry = 59999;
+    keep("merge 7, limit 0", s);
+    s.process_preview_data = s.announce_stream_termination = true;
+    s.source_limit = 65535;
+    keep("all", s);
+}
+
+/* A record of each layout. No number in them reads the same with its bytes the other way round. */
+static const uint8_t layout_1[] = {0x53, 0x54, 1, 1, 0, 1, 0, 1, 0xff, 0xfe};
+static const uint8_t layout_2[] = {0x53, 0x54, 2, 1, 0, 1, 0, 1, 1, 2, 0, 0, 0xab, 0xcd};
+
+/* The bytes that are loaded: such a record, with ff behind it. */
+static uint8_t laid[64];
+static size_t lay(int layout) {
+    const size_t length = layout == 1 ? sizeof layout_1 : sizeof layout_2;
+    memset(laid, 0xff, sizeof laid);
+    memcpy(laid, layout == 1 ? layout_1 : layout_2, length);
+    return length;
+}
+
+static void show_loaded(tamburelvi_adjusted loaded) {
+    printf(" %d, ", loaded.number);
+    if (loaded.number) printf("as before: %d", same_settings(loaded.settings, before()));
+    else print_settings(loaded.settings);
+}
+
+/* Both readers: the settings that were read, or whether those before are as they were, field by field. */
+static void load(size_t length) {
+    printf(", %zu bytes:", length);
+    show_loaded(tamburelvi_load_settings(before(), laid, length));
+    printf("; by layout 1 alone:");
+    show_loaded(tamburelvi_load_settings_layout_1(before(), laid, length));
+    printf("\n");
+}
+
+static void load_lengths(int layout) {
+    const size_t least = lay(layout);
+    for (size_t length = 0; length <= least + 1; length++) {
+        printf("layout %d", layout);
+        load(length);
+    }
+    printf("layout %d", layout);
+    load(sizeof laid);
+}
+
+/* Marks and layouts: in two bytes, in three, and in as many as a record of layout 2 has. */
+static void load_heads(void) {
+    static const uint8_t heads[][3] = {{0x53, 0x54, 0}, {0x53, 0x54, 3}, {0x53, 0x54, 255}, {0x53, 0x53, 2}, {0x53, 0x55, 2},
+        {0x52, 0x54, 2}, {0x54, 0x54, 2}, {0x54, 0x53, 1}, {0x55, 0x44, 2}, {0x54, 0x54, 3}, {0x53, 0x53, 0}};
+    for (size_t i = 0; i < sizeof heads / sizeof heads[0]; i++) {
+        lay(2);
+        memcpy(laid, heads[i], sizeof heads[i]);
+        for (size_t length = 2; length <= 14; length += length == 2 ? 1 : 11) {
+            print_bytes(heads[i], sizeof heads[i]);
+            load(length);
+        }
+    }
+}
+
+/* Each field of a byte: over 1, the first time with a byte too few for the layout, and then its other value. */
+static void load_flags(int layout) {
+    const size_t least = lay(layout);
+    for (size_t place = 3; place <= 7; place++) {
+        const uint8_t was = laid[place], tried[] = {2, 2, 128, 255, (uint8_t)!was};
+        for (size_t i = 0; i < sizeof tried; i++) {
+            laid[place] = tried[i];
+            printf("layout %d, byte %zu is %d", layout, place, tried[i]);
+            load(i ? least : least - 1);
+        }
+        laid[place] = was;
+    }
+}
+
+/* Numbers in so many bytes at a place: the limit, or the expiry and, in layout 1, what stands where it would. */
+static void load_numbers(int layout, size_t place, size_t count, const uint32_t *numbers, size_t numbers_length) {
+    const size_t least = lay(layout);
+    for (size_t n = 0; n < numbers_length; n++) {
+        for (size_t i = 0; i < count; i++) laid[place + i] = (uint8_t)(numbers[n] >> 8 * (count - 1 - i) & 255);
+        printf("layout %d, %lu from byte %zu", layout, (unsigned long)numbers[n], place);
+        load(place + count < least ? least : place + count);
+    }
+}
+
+/* Three bytes, the mark, the layout, the bytes that the layout needs, and the fields: the first fault in this order decides. */
+static void loading(void) {
+    static const uint32_t limits[] = {0, 1, 255, 256, 65535};
+    static const uint32_t expiries[] = {0, 2499, 2500, 60000, 60001, 68036, 16779716, 4294967295u};
+    for (int layout = 1; layout <= 2; layout++) load_lengths(layout);
+    load_heads();
+    for (int layout = 1; layout <= 2; layout++) {
+        load_flags(layout);
+        load_numbers(layout, 8, 2, limits, sizeof limits / sizeof limits[0]);
+        load_numbers(layout, 10, 4, expiries, sizeof expiries / sizeof expiries[0]);
+    }
+    printf("an expiry out of range and a byte too few");
+    load(13);
+}
+
+/* What is loaded and stored again is the same record, but for the layout and what stands behind it. */
+static void loading_and_storing(void) {
+    lay(1);
+    keep("layout 1", tamburelvi_load_settings(before(), laid, sizeof laid).settings);
+    keep("layout 1, by layout 1 alone", tamburelvi_load_settings_layout_1(before(), laid, sizeof laid).settings);
+    lay(2);
+    keep("layout 2", tamburelvi_load_settings(before(), laid, sizeof laid).settings);
+}
+
+/* The venue's settings are there again after a power cycle, and the next step goes by them; a record that is refused leaves
+ * them. */
+static void power_cycle(void) {
+    const uint16_t some[] = {1};
+    uint8_t kept[TAMBURELVI_SETTINGS_RECORD];
+    show("new", tamburelvi_receiver_new(r));
+    show("announce timeouts", tamburelvi_receiver_set_announce_timeout(r, true));
+    show("limit 1", tamburelvi_receiver_set_source_limit(r, 1));
+    show("discovery expiry 60,000", tamburelvi_receiver_set_discovery_expiry(r, 60000));
+    show("stored in 13 bytes", tamburelvi_receiver_store_settings(r, kept, sizeof kept - 1));
+    show("stored", tamburelvi_receiver_store_settings(r, kept, sizeof kept));
+    show_settings();
+    show("new", tamburelvi_receiver_new(r));
+    show_settings();
+    show("loaded by layout 1 alone", tamburelvi_receiver_load_settings_layout_1(r, kept, sizeof kept));
+    show_settings();
+    show("loaded", tamburelvi_receiver_load_settings(r, kept, sizeof kept));
+    show_settings();
+    show("listen to 1", tamburelvi_receiver_listen_universes(r, some, 1));
+    show("A", take(60000, data(0x30, 1, 0, 7, 2)));
+    show("B", take(60000, data(0x40, 1, 0, 7, 2)));
+    show("layout 2, loaded from 13 bytes", tamburelvi_receiver_load_settings(r, layout_2, sizeof layout_2 - 1));
+    show_settings();
+    kept[7] = 2;
+    show("loaded with merge 2", tamburelvi_receiver_load_settings(r, kept, sizeof kept));
+    show_settings();
+    show("layout 1, loaded by layout 1 alone", tamburelvi_receiver_load_settings_layout_1(r, layout_1, sizeof layout_1));
+    show_settings();
+    show("layout 2, loaded", tamburelvi_receiver_load_settings(r, layout_2, sizeof layout_2));
+    show_settings();
+    r->settings.discovery_expiry = 60001;
+    show("stored with an expiry that was written by hand", tamburelvi_receiver_store_settings(r, kept, sizeof kept));
+    printf("  ");
+    print_bytes(kept, sizeof kept);
+    printf("\n");
+}
+
 /* ---- the reader of records on bytes that are no release ---- */
 
 /* Reads a copy that is no longer than `length`, so that a read past it is found by a sanitizer. */
@@ -956,6 +1192,14 @@ int main(void) {
     broken();
     printf("-- the library's functions\n");
     library();
+    printf("-- settings stored\n");
+    storing();
+    printf("-- settings loaded\n");
+    loading();
+    printf("-- settings loaded and stored\n");
+    loading_and_storing();
+    printf("-- a power cycle\n");
+    power_cycle();
     printf("-- malformed releases\n");
     malformed();
     return 0;

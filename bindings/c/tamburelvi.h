@@ -19,10 +19,10 @@
  * with tamburelvi_records_next, which read a release. A name with `tamburelvi_inner_` is not for use.
  *
  * What a call sees, it answers by number (enum tamburelvi_number): parts that are too long (1), illegal universes (2), muting
- * what is not listened to (3), a limit of 0 (14), lent memory that is too short (15), a discovery expiry out of range (20). A
- * `tamburelvi_receiver_CALL` also sees a null pointer (255), a receiver that was not started (254), and values, names, lists or
- * output that overlap one another or the receiver (253); it then changes nothing, and a read-out says that there is no such
- * entry.
+ * what is not listened to (3), a limit of 0 (14), lent memory that is too short (15), a discovery expiry out of range (20),
+ * bytes that are no settings record (22) or one that cannot be read (23). A `tamburelvi_receiver_CALL` also sees a null pointer
+ * (255), a receiver that was not started (254), and values, names, lists, output or a settings record that overlap one another
+ * or the receiver (253); it then changes nothing, and a read-out says that there is no such entry.
  *
  * What no call sees is the caller's to keep. The proofs hold for callers who do:
  *
@@ -37,9 +37,10 @@
  *  5. One call at a time. Nothing is locked: while a call that changes a receiver runs, no other call on it does, a read-out
  *     neither, be it from a thread or from an interrupt. Different receivers do not mind one another; an output that two of
  *     them share is one memory.
- *  6. Numbers are in the machine's byte order (a packet has them most significant byte first), a CID's bytes in the packet's
- *     order. Readings are milliseconds of one clock; of an entry that is newer than a reading the age is 0. Other fields of a
- *     packet are taken as they come: a priority over 200, a page above the last page, a name that is not UTF-8.
+ *  6. Numbers are in the machine's byte order (a packet and a settings record have them most significant byte first), a CID's
+ *     bytes in the packet's order. Readings are milliseconds of one clock; of an entry that is newer than a reading the age is
+ *     0. Other fields of a packet are taken as they come: a priority over 200, a page above the last page, a name that is not
+ *     UTF-8.
  *
  * Said plainly: a header that was not started (that tamburelvi_new did not give), an older header, or memory that was changed in
  * between is not found out by the library's functions, which may then read and write outside the memory lent. A
@@ -71,6 +72,16 @@ extern "C" {
 #define TAMBURELVI_STORE 32832
 #define TAMBURELVI_UNIVERSES 32768
 
+/**
+ * @brief Bytes of a settings record, as it is written: the length below which tamburelvi_store_settings answers 15.
+ *
+ * A record is the mark 53 54 (hexadecimal), a byte for the layout, then the fields. Layout 1, 10 bytes in all, has preview and
+ * the announcements of discovery, termination and timeout, a byte each, 0 or 1; the merge choice, a byte, 0 by priority and 1
+ * by highest value; the source limit, two bytes, 0 for none. Layout 2, 14 bytes in all, has the discovery expiry behind them,
+ * four bytes. Layout 2 is written, both are read. There is no checksum: whoever keeps the bytes sees to it that they stay.
+ */
+#define TAMBURELVI_SETTINGS_RECORD 14
+
 /** @brief Longest parts of a packet: values with their start code, bytes of a name, universes of a page. */
 #define TAMBURELVI_VALUES 513
 #define TAMBURELVI_NAME 63
@@ -80,7 +91,7 @@ extern "C" {
 #define TAMBURELVI_CID 16
 
 /**
- * @brief What stopped a call. 17 to 19 and 22 to 252 are the library's too and not used yet; 16 was given up and is not used again;
+ * @brief What stopped a call. 17 to 19 and 24 to 252 are the library's too and not used yet; 16 was given up and is not used again;
  * 253 to 255 are this header's.
  *
  * In parentheses: the values that an answer of this number has, by enum tamburelvi_kind.
@@ -108,6 +119,8 @@ enum tamburelvi_number {
     TAMBURELVI_TOO_SHORT = 15,              /**< Lent memory is too short. (One: the bytes needed.) */
     TAMBURELVI_EXPIRY_OUT_OF_RANGE = 20,    /**< A discovery expiry under 2,500 or over 60,000. (None.) */
     TAMBURELVI_REPEATED = 21,               /**< The last sequence number again: a difference of 0. (Sequence.) */
+    TAMBURELVI_NO_SETTINGS_RECORD = 22,     /**< Under three bytes, a wrong mark, or too few for the layout. (None.) */
+    TAMBURELVI_UNREADABLE_SETTINGS_RECORD = 23, /**< An unknown layout, or a field out of range. (None.) */
     TAMBURELVI_OVERLAP = 253,               /**< This header's: memories of the call overlap; it was not made. (None.) */
     TAMBURELVI_NOT_STARTED = 254,           /**< This header's: no tamburelvi_receiver_new; the call was not made. (None.) */
     TAMBURELVI_NULL = 255                   /**< This header's: a null pointer; the call was not made. (None.) */
@@ -217,7 +230,10 @@ typedef struct tamburelvi_reply {
     tamburelvi_answer answer;
 } tamburelvi_reply;
 
-/** @brief What a setter that can refuse leaves and answers: 0, or 14 of the limit and 20 of the discovery expiry. */
+/**
+ * @brief The settings that a call which can refuse leaves, and what it answers: 0, or 14 of the limit, 20 of the discovery
+ * expiry, 22 and 23 of a settings record.
+ */
 typedef struct tamburelvi_adjusted {
     tamburelvi_settings settings;
     uint8_t number;
@@ -745,6 +761,40 @@ tamburelvi_adjusted tamburelvi_set_source_limit(tamburelvi_settings settings, ui
 tamburelvi_adjusted tamburelvi_set_discovery_expiry(tamburelvi_settings settings, uint32_t expiry);
 
 /**
+ * @brief Writes a settings record, for settings that outlive a power cycle: layout 2, TAMBURELVI_SETTINGS_RECORD bytes.
+ *
+ * tamburelvi_load_settings reads the same settings from it: a merge choice over 1 is written as 1, which has its meaning. 14
+ * cannot come here, since a source limit of 0 is none and is written as none.
+ * @param settings The settings.
+ * @param bytes Gets the record in its first bytes; the rest is unchanged.
+ * @param length How many, TAMBURELVI_SETTINGS_RECORD or more.
+ * @return 0; or, with nothing written, 15, and after it 20 for a discovery expiry that the setter does not take.
+ */
+tamburelvi_answer tamburelvi_store_settings(tamburelvi_settings settings, uint8_t *bytes, size_t length);
+
+/**
+ * @brief Reads a settings record of layout 1 or 2. Layout 1 has no discovery expiry and is read with 20,000.
+ *
+ * Tested in this order: three bytes (22), the mark (22), the layout (23), the bytes that the layout needs, whatever they hold
+ * (22), and the fields: a byte over 1 where 0 and 1 are, a discovery expiry that the setter does not take (23).
+ * @param settings The settings before.
+ * @param bytes The record. What stands behind its last field is not read.
+ * @param length How many, with what stands behind it.
+ * @return The settings that were read and 0; otherwise the settings as they were, field by field, and 22 or 23.
+ */
+tamburelvi_adjusted tamburelvi_load_settings(tamburelvi_settings settings, const uint8_t *bytes, size_t length);
+
+/**
+ * @brief tamburelvi_load_settings by a reader that knows layout 1 alone, as older firmware does: a record of layout 2 is of an
+ * unknown layout (23), and none of its settings is shown.
+ * @param settings The settings before.
+ * @param bytes The record. What stands behind its last field is not read.
+ * @param length How many, with what stands behind it.
+ * @return The settings that were read and 0; otherwise the settings as they were, field by field, and 22 or 23.
+ */
+tamburelvi_adjusted tamburelvi_load_settings_layout_1(tamburelvi_settings settings, const uint8_t *bytes, size_t length);
+
+/**
  * @brief The pair at a place of the data table, by ascending CID, then universe.
  * @param header The receiver's header.
  * @param data_pairs Its data pairs.
@@ -858,6 +908,8 @@ static inline const char *tamburelvi_number_text(unsigned number) {
     case TAMBURELVI_TOO_SHORT: return "lent memory is too short";
     case TAMBURELVI_EXPIRY_OUT_OF_RANGE: return "a discovery expiry under 2,500 or over 60,000";
     case TAMBURELVI_REPEATED: return "the sequence number is a repeat of the last one";
+    case TAMBURELVI_NO_SETTINGS_RECORD: return "no settings record";
+    case TAMBURELVI_UNREADABLE_SETTINGS_RECORD: return "a settings record of an unknown layout, or with a field out of range";
     case TAMBURELVI_OVERLAP: return "memories of the call overlap";
     case TAMBURELVI_NOT_STARTED: return "the receiver was not started";
     case TAMBURELVI_NULL: return "a null pointer";
@@ -1508,6 +1560,58 @@ static inline tamburelvi_answer tamburelvi_receiver_set_discovery_expiry(tambure
     uint8_t fault = tamburelvi_inner_fault(receiver);
     if (fault) return tamburelvi_inner_bare(fault);
     return tamburelvi_inner_adjusted(receiver, tamburelvi_set_discovery_expiry(receiver->settings, expiry));
+}
+
+/**
+ * @brief Writes a record of the receiver's settings, by which they outlive a power cycle.
+ * @param receiver The receiver.
+ * @param bytes Gets the record in its first bytes; the rest is unchanged. Null is allowed with a length of 0.
+ * @param length How many, TAMBURELVI_SETTINGS_RECORD or more.
+ * @return 0; or, with nothing written, 15, 20 for a discovery expiry that was written by hand, 253 to 255.
+ */
+static inline tamburelvi_answer tamburelvi_receiver_store_settings(
+    const tamburelvi_receiver *receiver, uint8_t *bytes, size_t length) {
+    uint8_t nowhere = 0;
+    uint8_t fault = tamburelvi_inner_fault(receiver);
+    if (!fault) fault = tamburelvi_inner_lent(receiver, bytes, length);
+    if (fault) return tamburelvi_inner_bare(fault);
+    return tamburelvi_store_settings(receiver->settings, length ? bytes : &nowhere, length);
+}
+
+/* A settings record, by one of the library's readers. */
+static inline tamburelvi_answer tamburelvi_inner_load(tamburelvi_receiver *receiver, const uint8_t *bytes, size_t length,
+    tamburelvi_adjusted (*load)(tamburelvi_settings, const uint8_t *, size_t)) {
+    uint8_t fault = tamburelvi_inner_fault(receiver);
+    if (!fault) fault = tamburelvi_inner_lent(receiver, bytes, length);
+    if (fault) return tamburelvi_inner_bare(fault);
+    return tamburelvi_inner_adjusted(
+        receiver, load(receiver->settings, length ? bytes : tamburelvi_inner_no_bytes(), length));
+}
+
+/**
+ * @brief Reads a settings record of layout 1 or 2 and takes its settings. Layout 1 has no discovery expiry and is read with
+ * 20,000.
+ * @param receiver The receiver.
+ * @param bytes The record; null is allowed with a length of 0. What stands behind its last field is not read.
+ * @param length How many, with what stands behind it.
+ * @return 0; 22 or 23, which change nothing; 253 to 255.
+ */
+static inline tamburelvi_answer tamburelvi_receiver_load_settings(
+    tamburelvi_receiver *receiver, const uint8_t *bytes, size_t length) {
+    return tamburelvi_inner_load(receiver, bytes, length, tamburelvi_load_settings);
+}
+
+/**
+ * @brief tamburelvi_receiver_load_settings by a reader that knows layout 1 alone, as older firmware does: a record of layout 2
+ * is of an unknown layout (23), and none of its settings is taken.
+ * @param receiver The receiver.
+ * @param bytes The record; null is allowed with a length of 0. What stands behind its last field is not read.
+ * @param length How many, with what stands behind it.
+ * @return 0; 22 or 23, which change nothing; 253 to 255.
+ */
+static inline tamburelvi_answer tamburelvi_receiver_load_settings_layout_1(
+    tamburelvi_receiver *receiver, const uint8_t *bytes, size_t length) {
+    return tamburelvi_inner_load(receiver, bytes, length, tamburelvi_load_settings_layout_1);
 }
 
 /* ---- Read-outs: places from 0; each says whether there was such an entry, and writes nothing where there was none. ---- */

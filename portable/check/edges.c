@@ -18,12 +18,24 @@ static bool same_header(const tamburelvi_header *p, const tamburelvi_header *q) 
         p->sources == q->sources && p->pages == q->pages && p->page_universes == q->page_universes && p->data_tidy == q->data_tidy && p->sync_tidy == q->sync_tidy;
 }
 
-static void is_15(const char *what, tamburelvi_reply r, size_t needed) {
+static void told_15(const char *what, tamburelvi_answer a, size_t needed, bool unchanged) {
     tried++;
+    bool as_said = a.number == 15 && a.values == TAMBURELVI_ONE && a.first == needed && unchanged;
+    if (!as_said) printf("WRONG: %s: %u %lu\n", what, a.number, (unsigned long)a.first), wrong++;
+}
+
+static void is_15(const char *what, tamburelvi_reply r, size_t needed) {
     h = r.header;
-    bool as_said = r.answer.number == 15 && r.answer.values == TAMBURELVI_ONE && r.answer.first == needed && same_header(&h, &first) &&
-        !memcmp(&t, &before, sizeof t);
-    if (!as_said) printf("WRONG: %s: %u %lu\n", what, r.answer.number, (unsigned long)r.answer.first), wrong++;
+    told_15(what, r.answer, needed, same_header(&h, &first) && !memcmp(&t, &before, sizeof t));
+}
+
+/* A settings record in so many bytes. */
+static void stores_15(tamburelvi_settings s, size_t length) {
+    uint8_t bytes[TAMBURELVI_SETTINGS_RECORD], filled[TAMBURELVI_SETTINGS_RECORD];
+    memset(bytes, 0xCC, sizeof bytes);
+    memcpy(filled, bytes, sizeof bytes);
+    tamburelvi_answer a = tamburelvi_store_settings(s, bytes, length);
+    told_15("settings", a, sizeof bytes, !memcmp(bytes, filled, sizeof bytes));
 }
 
 #ifdef HOOK
@@ -66,6 +78,7 @@ int edges(void) {
         is_15("sweep, universes", tamburelvi_remove_expired_sources(h, &t.sources, &t.names, &t.pages, t.universes, pool - n, s, 0), 2 * pool);
         is_15("clear, store", tamburelvi_clear_waiting_data(h, &t.rows, t.store, store - n, 1), store);
     }
+    for (size_t n = 0; n < TAMBURELVI_SETTINGS_RECORD; n++) stores_15(s, n);
     printf("%d calls with a length that is too short, %d not 15\n", tried, wrong);
 #ifdef HOOK
     fflush(stdout);

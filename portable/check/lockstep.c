@@ -1,6 +1,6 @@
 /* lockstep CALLS [SEED]: the proved library and the portable one (its symbols renamed to portable_..) side by side on random calls. After every call the
- * answers, the headers, all lent memory and the output are compared. Status 1 at the first difference, and where a number of 0 to 15, 20 or
- * 21 was not reached, another was given or a function was not called.
+ * answers, the headers, all lent memory and the output are compared. Status 1 at the first difference, and where a number of 0 to 15 or 20
+ * to 23 was not reached, another was given or a function was not called.
  * With -DTRACE one library alone gets the calls, and a sum of all answers and headers, and of all lent memory and output after every 64th call, is
  * printed: for two machines that cannot run one program. */
 #include "tamburelvi.h"
@@ -13,7 +13,7 @@
     F(new) F(handle_data_packet) F(handle_sync_packet) F(handle_universe_discovery_packet) F(poll) F(remove_expired_sources) F(listen_universes) \
     F(mute_universe) F(is_listening) F(clear_waiting_data) F(clear_all_waiting_data) F(reset_pairs) F(reset_discovery) F(reset_sources) F(fresh_settings) \
     F(set_process_preview_data) F(set_announce_source_discovery) F(set_announce_stream_termination) F(set_announce_timeout) F(set_merge) \
-    F(clear_source_limit) F(set_source_limit) F(set_discovery_expiry) \
+    F(clear_source_limit) F(set_source_limit) F(set_discovery_expiry) F(store_settings) F(load_settings) F(load_settings_layout_1) \
     F(data_pair) F(sync_pair) F(data_source) F(sync_source) F(listened) F(waiting) F(waiting_values) F(source_at) F(page_at)
 #ifdef TRACE
 #define OTHER(f) tamburelvi_##f
@@ -44,7 +44,7 @@ static uint64_t below(uint64_t n) {
 static bool one_in(uint64_t n) { return below(n) == 0; }
 
 /* Whether random calls bring the number about. 16 is not used. */
-static bool given(int number) { return number < 16 || number == 20 || number == 21; }
+static bool given(int number) { return number < 16 || (number >= 20 && number <= 23); }
 
 static void differ(const char *what) {
     printf("DIFFERENT: %s, call %lu\n", what, calls);
@@ -83,11 +83,13 @@ static void same_settings(tamburelvi_settings p, tamburelvi_settings q) {
     SAME(p, q, process_preview_data); SAME(p, q, announce_source_discovery); SAME(p, q, announce_stream_termination); SAME(p, q, announce_timeout);
     SAME(p, q, merge); SAME(p, q, source_limit); SAME(p, q, discovery_expiry);
 }
+static void same_answer(tamburelvi_answer p, tamburelvi_answer q) {
+    SAME(p, q, first); SAME(p, q, second); SAME(p, q, hi); SAME(p, q, lo); SAME(p, q, number); SAME(p, q, values); SAME(p, q, difference);
+    reached[p.number]++;
+}
 static void same_reply(tamburelvi_reply p, tamburelvi_reply q) {
     a.header = p.header, b.header = q.header;
-    SAME(p.answer, q.answer, first); SAME(p.answer, q.answer, second); SAME(p.answer, q.answer, hi); SAME(p.answer, q.answer, lo);
-    SAME(p.answer, q.answer, number); SAME(p.answer, q.answer, values); SAME(p.answer, q.answer, difference);
-    reached[p.answer.number]++;
+    same_answer(p.answer, q.answer);
     if (p.answer.values == TAMBURELVI_RELEASE) records += p.answer.first;
 }
 
@@ -108,6 +110,44 @@ static tamburelvi_settings s;
 static uint32_t expiry(void) {
     static const uint32_t some[] = {0, 2499, 2500, 20000, 60000, 60001, UINT32_MAX};
     return one_in(4) ? 2500 + (uint32_t)below(57501) : some[below(7)];
+}
+
+/* Bytes for a settings record, as many as it has, or fewer or more. */
+static uint8_t record_a[24], record_b[24];
+static size_t record_length(void) { return one_in(3) ? below(25) : TAMBURELVI_SETTINGS_RECORD; }
+
+/* Random settings, with an expiry in them that the setter need not take, stored in bytes that hold anything. */
+static void store(void) {
+    tamburelvi_settings w = s;
+    w.process_preview_data = one_in(2);
+    w.announce_source_discovery = one_in(2);
+    w.announce_stream_termination = one_in(2);
+    w.announce_timeout = one_in(2);
+    w.merge = (uint8_t)below(3);
+    w.source_limit = (uint16_t)(one_in(3) ? 0 : below(65536));
+    w.discovery_expiry = one_in(3) ? expiry() : 2500 + (uint32_t)below(57501);
+    size_t length = record_length();
+    for (size_t i = 0; i < sizeof record_a; i++) record_a[i] = record_b[i] = (uint8_t)below(256);
+    COUNT(store_settings);
+    same_answer(tamburelvi_store_settings(w, record_a, length), OTHER(store_settings)(w, record_b, length));
+    if (memcmp(record_a, record_b, sizeof record_a)) differ("settings record");
+    for (size_t i = 0; i < sizeof record_a; i++) add(record_a[i]);
+}
+
+/* What was stored last, now and then with another layout or with a byte changed, loaded by one of the readers. */
+static void load(void) {
+    size_t length = record_length(), place = below(TAMBURELVI_SETTINGS_RECORD);
+    if (one_in(2)) record_a[2] = (uint8_t)below(4);
+    if (one_in(3)) record_a[place] = (uint8_t)(one_in(2) ? below(3) : below(256));
+    if (!one_in(3)) ADJUSTED(load_settings, s, record_a, length);
+    else ADJUSTED(load_settings_layout_1, s, record_a, length);
+}
+
+/* The settings that were loaded last stay now and then. */
+static void stores_and_loads(void) {
+    tamburelvi_settings before = s;
+    for (int i = 0; i < 8; i++) store(), load();
+    if (!one_in(8)) s = before;
 }
 
 static void settings(void) {
@@ -204,7 +244,7 @@ int main(int argc, char **argv) {
                 break;
             }
             case 4:
-                switch (below(10)) {
+                switch (below(11)) {
                 case 0: REPLY(poll, TABLES, s, now); break;
                 case 1: {
                     /* By the settings, or with an expiry in them that the setter need not take. */
@@ -238,6 +278,7 @@ int main(int argc, char **argv) {
                 }
                 case 8: reads(); break;
                 case 9: if (one_in(4)) settings(); break;
+                case 10: stores_and_loads(); break;
                 }
             }
             same_memory();

@@ -2,6 +2,7 @@
  * prints them. For every target: standard C alone. `replay` is called by main here, or by a target's own start (-DNO_MAIN). */
 #include "tamburelvi.h"
 #include <stdio.h>
+#include <stdlib.h>
 #include <string.h>
 
 #define LINE 8192
@@ -132,6 +133,29 @@ static void adjusted(tamburelvi_adjusted a) {
     said(a.number);
 }
 
+static void store(size_t n) {
+    memset(bytes, 0xCC, n);
+    tamburelvi_answer a = tamburelvi_store_settings(s, bytes, n);
+    if (a.number) answer(a, 0, 0);
+    else fputs("0 ", stdout), hex(bytes, n), putchar('\n');
+}
+
+static void put_settings(void) {
+    const bool flags[] = {s.process_preview_data, s.announce_source_discovery, s.announce_stream_termination, s.announce_timeout};
+    putchar('0');
+    for (int i = 0; i < 4; i++) putchar(' '), put_number(flags[i]);
+    fputs(s.merge ? " highest " : " priority ", stdout);
+    if (s.source_limit) put_number(s.source_limit);
+    else fputs("none", stdout);
+    putchar(' '), said(s.discovery_expiry);
+}
+
+/* Past the setter. A limit of 0 is none in C, so that a line which puts it into the settings cannot be carried out, and ends the program. */
+static void put_limit(uint16_t limit) {
+    if (!limit) fputs("raw_limit 0: no settings in C hold it\n", stderr), exit(4);
+    s.source_limit = limit;
+}
+
 static void dump_pairs(char mark, bool sync) {
     size_t n = sync ? h.sync_pairs : h.data_pairs, m = sync ? h.sync_sources : h.data_sources;
     for (size_t i = 0; i < n; i++) {
@@ -233,11 +257,18 @@ static bool command(int n) {
         else if (!strcmp(w, "dump")) {
             dump();
             return true;
+        } else if (!strcmp(w, "settings")) {
+            put_settings();
+            return true;
         } else return false;
         said(0);
         return true;
     }
     if (!strcmp(w, "data") || !strcmp(w, "sync") || !strcmp(w, "discovery")) return packet(w, n);
+    if (!strcmp(w, "load_settings") && (n == 2 || (n == 3 && !strcmp(field[2], "1"))) && read_bytes(field[1], &count)) {
+        adjusted(n == 2 ? tamburelvi_load_settings(s, bytes, count) : tamburelvi_load_settings_layout_1(s, bytes, count));
+        return true;
+    }
     if (n != 2) return false;
     if (bit && !strcmp(w, "preview")) s = tamburelvi_set_process_preview_data(s, v);
     else if (bit && !strcmp(w, "announce_discovery")) s = tamburelvi_set_announce_source_discovery(s, v);
@@ -246,11 +277,16 @@ static bool command(int n) {
     else if (!strcmp(w, "merge") && !strcmp(field[1], "priority")) s = tamburelvi_set_merge(s, 0);
     else if (!strcmp(w, "merge") && !strcmp(field[1], "highest")) s = tamburelvi_set_merge(s, 1);
     else if (!strcmp(w, "limit") && !strcmp(field[1], "none")) s = tamburelvi_clear_source_limit(s);
+    else if (!strcmp(w, "raw_limit") && number(field[1], 65535, &v)) put_limit((uint16_t)v);
+    else if (!strcmp(w, "raw_expiry") && number(field[1], UINT32_MAX, &v)) s.discovery_expiry = (uint32_t)v;
     else if (!strcmp(w, "limit") && number(field[1], 65535, &v)) {
         adjusted(tamburelvi_set_source_limit(s, (uint16_t)v));
         return true;
     } else if (!strcmp(w, "expiry") && number(field[1], UINT32_MAX, &v)) {
         adjusted(tamburelvi_set_discovery_expiry(s, (uint32_t)v));
+        return true;
+    } else if (!strcmp(w, "store_settings") && number(field[1], 64, &v)) {
+        store((size_t)v);
         return true;
     } else if (!strcmp(w, "listen") && read_list(field[1], &count)) {
         reply(tamburelvi_listen_universes(h, &t.heard, numbers, count));
@@ -307,7 +343,6 @@ long measured_replay(int *stack) {
 
 #ifndef NO_MAIN
 #include "tamburelvi_panic.h"
-#include <stdlib.h>
 void tamburelvi_panicked(void) {
     fputs("panicked\n", stderr);
     exit(3);

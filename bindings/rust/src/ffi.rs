@@ -19,7 +19,7 @@ pub struct Header {
     pub sync_tidy: bool,
 }
 
-#[derive(Clone, Copy)]
+#[derive(Clone, Copy, PartialEq, Eq, Hash)]
 #[repr(C)]
 pub struct Settings {
     pub process_preview_data: bool,
@@ -331,6 +331,24 @@ unsafe extern "C" {
     pub safe fn tamburelvi_set_source_limit(settings: Settings, limit: u16) -> Adjusted;
 
     pub safe fn tamburelvi_set_discovery_expiry(settings: Settings, expiry: u32) -> Adjusted;
+
+    pub unsafe fn tamburelvi_store_settings(
+        settings: Settings,
+        bytes: *mut u8,
+        length: usize,
+    ) -> Answer;
+
+    pub unsafe fn tamburelvi_load_settings(
+        settings: Settings,
+        bytes: *const u8,
+        length: usize,
+    ) -> Adjusted;
+
+    pub unsafe fn tamburelvi_load_settings_layout_1(
+        settings: Settings,
+        bytes: *const u8,
+        length: usize,
+    ) -> Adjusted;
 
     pub safe fn tamburelvi_data_pair(header: Header, data_pairs: &Pairs, at: usize) -> PairRead;
 

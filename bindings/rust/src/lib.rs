@@ -44,6 +44,8 @@
 //!   announcement may be lost, if the next comes before that.
 //! - Call [`Receiver::reset_pairs`] where an operator has restarted a desk: its numbering begins anew, and by the old one its first packets may be refused
 //!   (7, 21).
+//! - Keep the bytes of [`Settings::to_bytes`] where settings are to outlive a power cycle, and give [`Receiver::set_settings`] what [`Settings::from_bytes`]
+//!   reads from them. Bytes that are refused (22, 23) show no setting.
 //!
 //! # Panics
 //!
@@ -69,14 +71,16 @@ mod packet;
 mod reads;
 mod receiver;
 mod record;
+mod settings;
 mod state;
 mod stop;
 
 pub use cid::{Cid, ParseCidError};
 pub use packet::{DataPacket, DiscoveryPacket, SyncPacket};
 pub use reads::{Page, Pair, Source};
-pub use receiver::{Merge, Receiver, Step};
+pub use receiver::{Receiver, Step};
 pub use record::{Record, Records};
+pub use settings::{Merge, Settings};
 pub use stop::{Name, Stop};
 
 /// The most bytes that one step releases: 64 records of the longest kind.

@@ -2,7 +2,7 @@
 
 use crate::state::State;
 use crate::stop::{stopped, unknown};
-use crate::{DataPacket, DiscoveryPacket, Records, Stop, SyncPacket, ffi};
+use crate::{DataPacket, DiscoveryPacket, Merge, Records, Settings, Stop, SyncPacket, ffi};
 use core::fmt;
 
 /// What a step that nothing stopped did.
@@ -16,16 +16,6 @@ pub enum Step<'a> {
     Released(Records<'a>),
 }
 
-/// How a packet joins the data that waits for its universe.
-#[derive(Clone, Copy, PartialEq, Eq, Hash, Debug)]
-#[non_exhaustive]
-pub enum Merge {
-    /// The data of higher priority is kept, at equal priority the newer.
-    DiscardLowestPriorityThenPrevious = 0,
-    /// The data of higher priority is kept; at equal priority the larger value at each place.
-    HtpDmxMerge = 1,
-}
-
 /// A receiver with its settings and its memory.
 ///
 /// The memory is about 250 KB on the heap, all of it taken by [`new`](Receiver::new) or by a clone; no other call takes any. A clone is a receiver of its
@@ -33,7 +23,7 @@ pub enum Merge {
 /// [`data_pairs`](Receiver::data_pairs) and the calls beside it.
 pub struct Receiver {
     pub(crate) state: State,
-    settings: ffi::Settings,
+    settings: Settings,
 }
 
 // What a call answers that gives no values with 0.
@@ -47,12 +37,11 @@ fn done(answer: &ffi::Answer, name: Option<&[u8]>) -> Result<(), Stop> {
 
 /// A receiver, and its steps.
 impl Receiver {
-    /// A fresh receiver: no pairs, waiting data or pages; 64214 alone is listened to; preview and announcements off, merging by priority, no source limit, a
-    /// discovery expiry of 20,000 milliseconds.
+    /// A fresh receiver: no pairs, waiting data or pages; 64214 alone is listened to; the settings are fresh ([`Settings::new`]).
     pub fn new() -> Receiver {
         Receiver {
             state: State::new(),
-            settings: ffi::tamburelvi_fresh_settings(),
+            settings: Settings::new(),
         }
     }
 
@@ -95,7 +84,7 @@ impl Receiver {
         };
         let answer = self
             .state
-            .data_step(self.settings, reading, data, packet.values);
+            .data_step(self.settings.0, reading, data, packet.values);
         self.step(&answer)
     }
 
@@ -116,7 +105,7 @@ impl Receiver {
             address: packet.address,
             sequence: packet.sequence,
         };
-        let answer = self.state.sync_step(self.settings, reading, sync);
+        let answer = self.state.sync_step(self.settings.0, reading, sync);
         self.step(&answer)
     }
 
@@ -138,9 +127,13 @@ impl Receiver {
             page: packet.page,
             last_page: packet.last_page,
         };
-        let answer =
-            self.state
-                .discovery_step(self.settings, reading, page, packet.name, packet.universes);
+        let answer = self.state.discovery_step(
+            self.settings.0,
+            reading,
+            page,
+            packet.name,
+            packet.universes,
+        );
         done(&answer, Some(packet.name))
     }
 }
@@ -154,13 +147,13 @@ impl Receiver {
     /// 4 where timeouts are announced: one pair is gone, and what comes after it is not swept. Call again until nothing stops it. A table whose first source,
     /// the one of the lowest CID, has nothing expired is then not swept at all: what is silent behind it stays until that source times out too.
     pub fn poll(&mut self, reading: u64) -> Result<(), Stop> {
-        done(&self.state.poll(self.settings, reading), None)
+        done(&self.state.poll(self.settings.0, reading), None)
     }
 
     /// The discovery sweep: discovered sources, partial and listed, of the age of the [`discovery_expiry`](Receiver::discovery_expiry) or more go. No step and
     /// no poll makes it.
     pub fn remove_expired_sources(&mut self, reading: u64) {
-        let answer = self.state.remove_expired_sources(self.settings, reading);
+        let answer = self.state.remove_expired_sources(self.settings.0, reading);
         match (answer.number, answer.values) {
             (0, ffi::NONE) => {}
             (number, kind) => unknown(number, kind),
@@ -228,115 +221,94 @@ impl Receiver {
     }
 }
 
-/// Settings. Each may change between any two calls, and holds from the next call on.
+/// Settings. Each may change between any two calls, and holds from the next call on. [`Settings`] says what each does.
 impl Receiver {
-    /// Whether data packets that are marked preview are taken. Fresh: no.
+    /// All settings, as a value.
+    pub fn settings(&self) -> Settings {
+        self.settings
+    }
+
+    /// Takes all of these settings.
+    pub fn set_settings(&mut self, settings: Settings) {
+        self.settings = settings;
+    }
+
+    /// As [`Settings::process_preview_data`].
     pub fn process_preview_data(&self) -> bool {
-        self.settings.process_preview_data
+        self.settings.process_preview_data()
     }
 
-    /// Takes data packets that are marked preview, or passes them over.
+    /// As [`Settings::set_process_preview_data`].
     pub fn set_process_preview_data(&mut self, on: bool) {
-        self.settings = ffi::tamburelvi_set_process_preview_data(self.settings, on);
+        self.settings.set_process_preview_data(on);
     }
 
-    /// Whether a source that is listed is announced. Fresh: no.
+    /// As [`Settings::announce_source_discovery`].
     pub fn announce_source_discovery(&self) -> bool {
-        self.settings.announce_source_discovery
+        self.settings.announce_source_discovery()
     }
 
-    /// Announces a source that is listed, by [`Stop::SourceDiscovered`] (9), or not.
+    /// As [`Settings::set_announce_source_discovery`].
     pub fn set_announce_source_discovery(&mut self, on: bool) {
-        self.settings = ffi::tamburelvi_set_announce_source_discovery(self.settings, on);
+        self.settings.set_announce_source_discovery(on);
     }
 
-    /// Whether the end of a stream is announced. Fresh: no.
+    /// As [`Settings::announce_stream_termination`].
     pub fn announce_stream_termination(&self) -> bool {
-        self.settings.announce_stream_termination
+        self.settings.announce_stream_termination()
     }
 
-    /// Announces the end of a stream, by [`Stop::UniverseTerminated`] (5), or not.
+    /// As [`Settings::set_announce_stream_termination`].
     pub fn set_announce_stream_termination(&mut self, on: bool) {
-        self.settings = ffi::tamburelvi_set_announce_stream_termination(self.settings, on);
+        self.settings.set_announce_stream_termination(on);
     }
 
-    /// Whether timeouts are announced. Fresh: no.
+    /// As [`Settings::announce_timeout`].
     pub fn announce_timeout(&self) -> bool {
-        self.settings.announce_timeout
+        self.settings.announce_timeout()
     }
 
-    /// Announces timeouts, by [`Stop::UniverseTimeout`] (4), one with each poll or step, or sweeps silently.
+    /// As [`Settings::set_announce_timeout`].
     pub fn set_announce_timeout(&mut self, on: bool) {
-        self.settings = ffi::tamburelvi_set_announce_timeout(self.settings, on);
+        self.settings.set_announce_timeout(on);
     }
 
-    /// How a packet joins the data that waits for its universe. Fresh: [`Merge::DiscardLowestPriorityThenPrevious`].
+    /// As [`Settings::merge`].
     pub fn merge(&self) -> Merge {
-        match self.settings.merge {
-            0 => Merge::DiscardLowestPriorityThenPrevious,
-            1 => Merge::HtpDmxMerge,
-            merge => panic!("a bug: libtamburelvi.a left the merge choice {merge}"),
-        }
+        self.settings.merge()
     }
 
-    /// Chooses how a packet joins the data that waits for its universe.
+    /// As [`Settings::set_merge`].
     pub fn set_merge(&mut self, merge: Merge) {
-        self.settings = ffi::tamburelvi_set_merge(self.settings, merge as u8);
+        self.settings.set_merge(merge);
     }
 
-    /// How many sources each pair table takes. Fresh: no limit.
+    /// As [`Settings::source_limit`].
     pub fn source_limit(&self) -> Option<u16> {
-        match self.settings.source_limit {
-            0 => None,
-            limit => Some(limit),
-        }
+        self.settings.source_limit()
     }
 
-    /// Limits how many sources each pair table takes, or lifts the limit. A limit below the number that is held turns nobody out.
+    /// As [`Settings::set_source_limit`].
     ///
     /// # Errors
     ///
     /// 14 for a limit of 0, which changes nothing.
     pub fn set_source_limit(&mut self, limit: Option<u16>) -> Result<(), Stop> {
-        let Some(limit) = limit else {
-            self.settings = ffi::tamburelvi_clear_source_limit(self.settings);
-            return Ok(());
-        };
-        self.adjusted(
-            ffi::tamburelvi_set_source_limit(self.settings, limit),
-            Stop::LimitZero,
-        )
+        self.settings.set_source_limit(limit)
     }
 
-    /// At which age, in milliseconds, the discovery sweep drops a source. Fresh: 20,000.
+    /// As [`Settings::discovery_expiry`].
     pub fn discovery_expiry(&self) -> u32 {
-        self.settings.discovery_expiry
+        self.settings.discovery_expiry()
     }
 
-    /// Chooses at which age [`remove_expired_sources`](Receiver::remove_expired_sources) drops a source, partial or listed: 2,500 to 60,000 milliseconds.
-    ///
-    /// E1.31 has sources announce themselves every 10 seconds: by the fresh 20,000 one announcement may be lost, if the next comes before the last one heard is
-    /// 20,000 old; by 10,000 or less a source can go between any two. The longer the expiry, the longer sources that are gone or stay partial hold pages, of
-    /// which there are 64 (13). Pairs and waiting data expire at 2,500, whatever is set here.
+    /// As [`Settings::set_discovery_expiry`].
     ///
     /// # Errors
     ///
     /// 20 for an expiry under 2,500 or over 60,000, which changes nothing.
     pub fn set_discovery_expiry(&mut self, expiry: u32) -> Result<(), Stop> {
-        self.adjusted(
-            ffi::tamburelvi_set_discovery_expiry(self.settings, expiry),
-            Stop::ExpiryOutOfRange,
-        )
-    }
-
-    // What a setter leaves and answers that refuses with this stop alone.
-    fn adjusted(&mut self, adjusted: ffi::Adjusted, refusal: Stop) -> Result<(), Stop> {
-        self.settings = adjusted.settings;
-        match adjusted.number {
-            0 => Ok(()),
-            number if number == refusal.number() => Err(refusal),
-            number => unknown(number, ffi::NONE),
-        }
+        self.settings.set_discovery_expiry(expiry)
     }
 }
 
@@ -365,7 +337,8 @@ impl Clone for Receiver {
 impl fmt::Debug for Receiver {
     fn fmt(&self, f: &mut fmt::Formatter<'_>) -> fmt::Result {
         let held = self.state.header();
-        f.debug_struct("Receiver")
+        let mut shown = f.debug_struct("Receiver");
+        shown
             .field("data_pairs", &held.data_pairs)
             .field("data_sources", &held.data_sources)
             .field("sync_pairs", &held.sync_pairs)
@@ -373,20 +346,8 @@ impl fmt::Debug for Receiver {
             .field("waiting_data", &held.waiting)
             .field("listened_universes", &held.listened)
             .field("discovered_sources", &held.sources)
-            .field("discovery_pages", &held.pages)
-            .field("process_preview_data", &self.process_preview_data())
-            .field(
-                "announce_source_discovery",
-                &self.announce_source_discovery(),
-            )
-            .field(
-                "announce_stream_termination",
-                &self.announce_stream_termination(),
-            )
-            .field("announce_timeout", &self.announce_timeout())
-            .field("merge", &self.merge())
-            .field("source_limit", &self.source_limit())
-            .field("discovery_expiry", &self.discovery_expiry())
-            .finish_non_exhaustive()
+            .field("discovery_pages", &held.pages);
+        self.settings.show(&mut shown);
+        shown.finish_non_exhaustive()
     }
 }

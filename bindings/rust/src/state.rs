@@ -1,10 +1,10 @@
-//! Header and memory of a receiver, and the library's calls on them: every `unsafe` call of the crate stands here.
+//! Header and memory of a receiver, the library's calls on them, and those on settings records: every `unsafe` call of the crate stands here.
 //!
 //! The library holds what it promises as long as its caller keeps five duties (bindings/c/tamburelvi.h), which the SAFETY comments cite:
 //!
 //! 1. Pointers are not null, are aligned, and point to memory of the type, and of the length beside them. All come from references and slices.
 //! 2. No two memories of one call overlap. They are different fields of one `Memory`, borrowed for the call, and slices that the caller lends, of which only
-//!    shared ones are taken.
+//!    shared ones are taken. A settings record is the one memory of its call.
 //! 3. A `bool` is 0 or 1. It is one of Rust's.
 //! 4. Every call gets the header that the last one gave back and the memory as it left it. Both are private to this module, each function below that calls
 //!    with `&mut` memory keeps the header of the reply, and nothing else writes either.
@@ -377,4 +377,21 @@ impl State {
         let universes = &self.memory.universes[p.start..p.start + p.count as usize];
         Some((p, universes))
     }
+}
+
+// Settings records.
+
+pub(crate) fn store_settings(settings: ffi::Settings, bytes: &mut [u8]) -> ffi::Answer {
+    // SAFETY: duties 1 to 3, above.
+    unsafe { ffi::tamburelvi_store_settings(settings, bytes.as_mut_ptr(), bytes.len()) }
+}
+
+pub(crate) fn load_settings(settings: ffi::Settings, bytes: &[u8]) -> ffi::Adjusted {
+    // SAFETY: duties 1 to 3, above.
+    unsafe { ffi::tamburelvi_load_settings(settings, bytes.as_ptr(), bytes.len()) }
+}
+
+pub(crate) fn load_settings_layout_1(settings: ffi::Settings, bytes: &[u8]) -> ffi::Adjusted {
+    // SAFETY: duties 1 to 3, above.
+    unsafe { ffi::tamburelvi_load_settings_layout_1(settings, bytes.as_ptr(), bytes.len()) }
 }

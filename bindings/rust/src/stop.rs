@@ -3,7 +3,7 @@
 use crate::{Cid, ffi};
 use core::fmt::{self, Write as _};
 
-/// What stops a call, with the values that go with it: the numbers 1 to 15, 20 and 21 of the receiver's table.
+/// What stops a call, with the values that go with it: the numbers 1 to 15 and 20 to 23 of the receiver's table.
 ///
 /// A stop is an answer, not a fault of the receiver, which goes on with the next call. 4, 5 and 9 are announcements that were asked for. A node with two
 /// network ports hears each packet twice: 21 is then no fault and need not be logged, 7 is one. Shown, a stop is a sentence that ends in its number.
@@ -60,7 +60,8 @@ pub enum Stop {
     PagesFull,
     /// 14: a source limit of 0. Nothing changed.
     LimitZero,
-    /// 15: lent memory is too short; the bytes needed. This crate lends enough, so no call gives it.
+    /// 15: lent memory is too short; the bytes needed. Nothing was written. [`Settings::store`](crate::Settings::store) alone gives it: to a receiver this
+    /// crate lends enough.
     TooShort(usize),
     /// 20: a discovery expiry under 2,500 or over 60,000 milliseconds. Nothing changed.
     ExpiryOutOfRange,
@@ -74,6 +75,10 @@ pub enum Stop {
         /// The first minus the second: 0.
         difference: i8,
     },
+    /// 22: no settings record: under three bytes, a wrong mark, or fewer bytes than the layout needs. No setting is shown.
+    NoSettingsRecord,
+    /// 23: a settings record of an unknown layout, or with a field out of range. No setting is shown.
+    UnreadableSettingsRecord,
 }
 
 impl Stop {
@@ -97,6 +102,8 @@ impl Stop {
             Stop::TooShort(_) => 15,
             Stop::ExpiryOutOfRange => 20,
             Stop::Repeated { .. } => 21,
+            Stop::NoSettingsRecord => 22,
+            Stop::UnreadableSettingsRecord => 23,
         }
     }
 }
@@ -137,6 +144,11 @@ impl fmt::Display for Stop {
             Stop::Repeated { arriving, .. } => write!(
                 f,
                 "sequence number {arriving} is a repeat: it is the last one accepted"
+            ),
+            Stop::NoSettingsRecord => write!(f, "the bytes are no settings record"),
+            Stop::UnreadableSettingsRecord => write!(
+                f,
+                "the settings record has an unknown layout or a field out of range"
             ),
         }?;
         write!(f, " (number {})", self.number())
@@ -269,6 +281,8 @@ fn stop_of(a: &ffi::Answer, name: Option<&[u8]>) -> Stop {
             last: narrow(a.second),
             difference: a.difference,
         },
+        (22, ffi::NONE) => Stop::NoSettingsRecord,
+        (23, ffi::NONE) => Stop::UnreadableSettingsRecord,
         (number, kind) => unknown(number, kind),
     }
 }
@@ -309,7 +323,7 @@ mod tests {
     }
 
     // Every number but 0, with its kind of values.
-    const KINDS: [(u8, u8); 17] = [
+    const KINDS: [(u8, u8); 19] = [
         (1, 1),
         (2, 1),
         (3, 1),
@@ -327,6 +341,8 @@ mod tests {
         (15, 1),
         (20, 0),
         (21, 4),
+        (22, 0),
+        (23, 0),
     ];
 
     #[test]
@@ -346,7 +362,7 @@ mod tests {
     // The one that was given up, what lies between the numbers and just above them, and the last one; also with the values of 7 and 21.
     #[test]
     fn every_number_between_is_a_bug() {
-        for number in [16, 17, 18, 19, 22, 255] {
+        for number in [16, 17, 18, 19, 24, 255] {
             for kind in [ffi::NONE, ffi::SEQUENCE] {
                 let end = catch_unwind(|| stopped(&answer(number, kind), Some(b"a desk")));
                 let said = end.unwrap_err().downcast::<String>().unwrap();
@@ -374,6 +390,12 @@ mod tests {
     #[should_panic(expected = "a bug: libtamburelvi.a answered 21 with values of kind 0,")]
     fn a_repeat_with_other_values_is_a_bug() {
         let _ = stopped(&answer(21, ffi::NONE), None);
+    }
+
+    #[test]
+    #[should_panic(expected = "a bug: libtamburelvi.a answered 23 with values of kind 1,")]
+    fn a_settings_record_with_values_is_a_bug() {
+        let _ = stopped(&answer(23, ffi::ONE), None);
     }
 
     #[test]

@@ -1,6 +1,8 @@
 //! What the binding itself does: numbers into enums, released bytes into records, state from call to call.
 
-use tamburelvi::{Cid, DataPacket, DiscoveryPacket, Merge, Receiver, Step, Stop, SyncPacket};
+use tamburelvi::{
+    Cid, DataPacket, DiscoveryPacket, Merge, Receiver, Settings, Step, Stop, SyncPacket,
+};
 
 fn packet(source: u8, universe: u16, sequence: u8, values: &[u8]) -> DataPacket<'_> {
     DataPacket::new(Cid([source; 16]), universe, sequence, values)
@@ -82,6 +84,15 @@ fn stops_have_their_number_and_values() {
         Err(Stop::UniverseNotRegistered(9))
     );
     assert_eq!(receiver.set_source_limit(Some(0)), Err(Stop::LimitZero));
+    assert_eq!(
+        receiver.settings().store(&mut [0; 13]),
+        Err(Stop::TooShort(14))
+    );
+    assert_eq!(Settings::from_bytes(b"S"), Err(Stop::NoSettingsRecord));
+    assert_eq!(
+        Settings::from_bytes(b"ST\x03"),
+        Err(Stop::UnreadableSettingsRecord)
+    );
     receiver.listen_universes(&[1, 2]).unwrap();
     assert!(receiver.is_listening(2) && receiver.is_listening(64_214) && !receiver.is_listening(3));
     assert_eq!(
@@ -370,4 +381,56 @@ fn pairs_and_waiting_data_keep_2500() {
             Err(Stop::UniverseTimeout(Cid([1; 16]), 1))
         );
     }
+}
+
+/// The next step goes by the settings that were read; what is refused leaves those before.
+#[test]
+fn settings_outlive_a_power_cycle() {
+    let mut receiver = Receiver::new();
+    receiver.set_source_limit(Some(1)).unwrap();
+    receiver.set_announce_timeout(true);
+    receiver.set_discovery_expiry(60_000).unwrap();
+    let before = receiver.settings();
+    let kept = before.to_bytes();
+
+    let mut receiver = Receiver::new();
+    receiver.listen_universes(&[1]).unwrap();
+    assert_eq!(receiver.settings(), Settings::new());
+    let mut load = |bytes: &[u8]| -> Result<(), Stop> {
+        receiver.set_settings(Settings::from_bytes(bytes)?);
+        Ok(())
+    };
+    load(&kept).unwrap();
+    for byte in 0..kept.len() {
+        let mut damaged = kept;
+        damaged[byte] = 0xff;
+        // Every number is a limit.
+        if byte != 8 && byte != 9 {
+            assert!(load(&damaged).is_err(), "{byte}");
+        }
+    }
+    assert_eq!(load(&kept[..13]), Err(Stop::NoSettingsRecord));
+    assert_eq!(receiver.settings(), before);
+
+    assert_eq!(
+        released(receiver.handle_data_packet(0, &packet(1, 1, 0, &[0]))).len(),
+        1
+    );
+    assert_eq!(
+        receiver
+            .handle_data_packet(0, &packet(2, 1, 0, &[0]))
+            .map(|_| ()),
+        Err(Stop::SourcesExceeded(1))
+    );
+    assert_eq!(
+        receiver.poll(2_500),
+        Err(Stop::UniverseTimeout(Cid([1; 16]), 1))
+    );
+    receiver
+        .handle_universe_discovery_packet(0, &announced(1, 0, 0))
+        .unwrap();
+    receiver.remove_expired_sources(59_999);
+    assert_eq!(discovered(&receiver), (0, 1));
+    receiver.remove_expired_sources(60_000);
+    assert_eq!(discovered(&receiver), (0, 0));
 }

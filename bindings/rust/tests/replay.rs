@@ -8,7 +8,7 @@ use std::io::Write as _;
 use std::path::PathBuf;
 use std::process::{Command, Stdio};
 use tamburelvi::{
-    Cid, DataPacket, DiscoveryPacket, Merge, Receiver, Source, Step, Stop, SyncPacket,
+    Cid, DataPacket, DiscoveryPacket, Merge, Receiver, Settings, Source, Step, Stop, SyncPacket,
 };
 
 struct Random(u64);
@@ -103,6 +103,52 @@ fn stepped(step: Result<Step, Stop>) -> String {
         Ok(other) => panic!("{other:?}"),
         Err(stop) => said(stop),
     }
+}
+
+/// All settings, as docs/REPLAY.md's `settings`.
+fn all_set(s: Settings) -> String {
+    let bit = u8::from;
+    let merge = match s.merge() {
+        Merge::DiscardLowestPriorityThenPrevious => "priority",
+        Merge::HtpDmxMerge => "highest",
+        other => panic!("{other:?}"),
+    };
+    format!(
+        "0 {} {} {} {} {merge} {} {}",
+        bit(s.process_preview_data()),
+        bit(s.announce_source_discovery()),
+        bit(s.announce_stream_termination()),
+        bit(s.announce_timeout()),
+        s.source_limit().map_or("none".into(), |n| n.to_string()),
+        s.discovery_expiry()
+    )
+}
+
+/// A record of random settings; or one with another layout, another byte or another length.
+fn record(r: &mut Random) -> Vec<u8> {
+    let mut bytes = vec![0x53, 0x54, 2];
+    bytes.extend((0..5).map(|_| r.below(2) as u8));
+    let limit = r.pick(&[0, 1, 2, 3, r.0 & 65_535]) as u16;
+    bytes.extend(limit.to_be_bytes());
+    let expiry = r.pick(&[
+        0,
+        2_499,
+        2_500,
+        20_000,
+        60_000,
+        60_001,
+        2_500 + r.0 % 57_501,
+    ]) as u32;
+    bytes.extend(expiry.to_be_bytes());
+    bytes.extend((0..4).map(|_| r.below(256) as u8));
+    if r.chance(3) {
+        bytes[2] = r.below(4) as u8;
+    }
+    if r.chance(4) {
+        bytes[r.below(14) as usize] = r.pick(&[0, 1, 2, 255]) as u8;
+    }
+    bytes.truncate(r.pick(&[14, 14, 14, 14, 18, 13, 10, 9, 3, 2, r.0 % 18]) as usize);
+    bytes
 }
 
 /// The whole state, as docs/REPLAY.md's dump.
@@ -242,6 +288,45 @@ impl Run {
             _ => {
                 let answer = done(self.receiver.set_source_limit(None));
                 self.line("limit none".into(), answer);
+            }
+        }
+    }
+
+    fn records(&mut self, r: &mut Random) {
+        match r.below(8) {
+            0 | 1 => {
+                let n = r.pick(&[0, 13, 14, 15, 64, r.0 % 65]) as usize;
+                let mut bytes = vec![0xcc; n];
+                let stored = self.receiver.settings().store(&mut bytes);
+                let answer = stored.map_or_else(said, |()| format!("0 {}", hex(&bytes)));
+                self.line(format!("store_settings {n}"), answer);
+            }
+            2..=4 => {
+                let bytes = record(r);
+                let (loaded, reader) = if r.chance(3) {
+                    (Settings::from_bytes_layout_1(&bytes), " 1")
+                } else {
+                    (Settings::from_bytes(&bytes), "")
+                };
+                let answer = done(loaded.map(|s| self.receiver.set_settings(s)));
+                self.line(format!("load_settings {}{reader}", hex(&bytes)), answer);
+            }
+            5 => {
+                let answer = all_set(self.receiver.settings());
+                self.line("settings".into(), answer);
+            }
+            // No settings of this crate hold a value that the setter refuses: such a line could not be carried out here, and ends the test.
+            6 => {
+                let limit = r.pick(&[1, 2, 3, 1 + r.0 % 65_535]) as u16;
+                let command = format!("raw_limit {limit}");
+                self.receiver.set_source_limit(Some(limit)).expect(&command);
+                self.line(command, "0".into());
+            }
+            _ => {
+                let expiry = r.pick(&[2_500, 20_000, 60_000, 2_500 + r.0 % 57_501]) as u32;
+                let command = format!("raw_expiry {expiry}");
+                self.receiver.set_discovery_expiry(expiry).expect(&command);
+                self.line(command, "0".into());
             }
         }
     }
@@ -425,6 +510,8 @@ fn run(seed: u64) -> Run {
             run.receiver = run.receiver.clone();
         } else if r.chance(25) {
             run.setting(&mut r);
+        } else if r.chance(25) {
+            run.records(&mut r);
         } else if r.chance(10) {
             run.call(&mut r, now, wide);
         } else {

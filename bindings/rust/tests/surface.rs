@@ -2,10 +2,11 @@
 
 use std::alloc::{GlobalAlloc, Layout, System};
 use std::cell::Cell;
+use std::collections::HashSet;
 use std::error::Error;
 use tamburelvi::{
-    Cid, DataPacket, DiscoveryPacket, Merge, Name, Page, ParseCidError, Receiver, Step, Stop,
-    SyncPacket,
+    Cid, DataPacket, DiscoveryPacket, Merge, Name, Page, ParseCidError, Receiver, Settings, Step,
+    Stop, SyncPacket,
 };
 
 fn data(source: u8, universe: u16, sequence: u8) -> DataPacket<'static> {
@@ -133,6 +134,21 @@ fn with_expiry(r: &mut Receiver) -> Result<(), Box<dyn core::error::Error>> {
     Ok(())
 }
 
+fn with_store(r: &mut Receiver) -> Result<(), Box<dyn core::error::Error>> {
+    r.settings().store(&mut [])?;
+    Ok(())
+}
+
+fn with_record(r: &mut Receiver, bytes: &[u8]) -> Result<(), Box<dyn core::error::Error>> {
+    r.set_settings(Settings::from_bytes(bytes)?);
+    Ok(())
+}
+
+fn with_layout_1(r: &mut Receiver, bytes: &[u8]) -> Result<(), Box<dyn core::error::Error>> {
+    r.set_settings(Settings::from_bytes_layout_1(bytes)?);
+    Ok(())
+}
+
 fn with_text(text: &str) -> Result<Cid, Box<dyn core::error::Error>> {
     Ok(text.parse()?)
 }
@@ -200,6 +216,26 @@ fn the_question_mark_works_for_every_call() {
             "the discovery expiry must be 2500 to 60000 milliseconds (number 20)".into()
         )
     );
+    assert_eq!(
+        said(with_store(&mut r)),
+        (
+            15,
+            "the lent memory is too short: 14 bytes are needed (number 15)".into()
+        )
+    );
+    assert_eq!(
+        said(with_record(&mut r, &[])),
+        (22, "the bytes are no settings record (number 22)".into())
+    );
+    let kept = r.settings().to_bytes();
+    assert_eq!(
+        said(with_layout_1(&mut r, &kept)),
+        (
+            23,
+            "the settings record has an unknown layout or a field out of range (number 23)".into()
+        )
+    );
+    with_record(&mut r, &kept).unwrap();
     assert_eq!(
         with_text("11").unwrap_err().to_string(),
         "a CID is 32 hexadecimal digits, plain or with the hyphens of a UUID"
@@ -283,13 +319,21 @@ fn every_stop_is_a_sentence_with_its_number() {
             repeated,
             "sequence number 10 is a repeat: it is the last one accepted (number 21)",
         ),
+        (
+            Stop::NoSettingsRecord,
+            "the bytes are no settings record (number 22)",
+        ),
+        (
+            Stop::UnreadableSettingsRecord,
+            "the settings record has an unknown layout or a field out of range (number 23)",
+        ),
     ];
     for (stop, text) in all {
         assert_eq!(stop.to_string(), text);
     }
     let numbers = all.map(|(stop, _)| stop.number());
     assert!(
-        numbers.into_iter().eq((1..=15).chain([20, 21])),
+        numbers.into_iter().eq((1..=15).chain(20..=23)),
         "{numbers:?}"
     );
     assert_eq!(
@@ -302,7 +346,7 @@ fn every_stop_is_a_sentence_with_its_number() {
     );
 }
 
-/// 1 to 14, 20 and 21 through the library; 15 cannot be given to this crate.
+/// 1 to 15 and 20 to 23, through the library.
 #[test]
 fn every_number_that_can_be_given_is_given() {
     // 1, in the order name, list
@@ -346,6 +390,17 @@ fn every_number_that_can_be_given_is_given() {
     assert_eq!(r.mute_universe(5), Err(Stop::UniverseNotRegistered(5)));
     assert_eq!(r.set_source_limit(Some(0)), Err(Stop::LimitZero));
     assert_eq!(r.set_discovery_expiry(0), Err(Stop::ExpiryOutOfRange));
+    // 15, 22, 23
+    assert_eq!(r.settings().store(&mut [0; 13]), Err(Stop::TooShort(14)));
+    let kept = r.settings().to_bytes();
+    assert_eq!(
+        Settings::from_bytes(&kept[..13]),
+        Err(Stop::NoSettingsRecord)
+    );
+    assert_eq!(
+        Settings::from_bytes_layout_1(&kept),
+        Err(Stop::UnreadableSettingsRecord)
+    );
     // 21, 7 at both ends, which change nothing; 6
     let repeated = Stop::Repeated {
         arriving: 0,
@@ -631,6 +686,39 @@ fn every_setting_can_be_read() {
         all(&r),
         ([false, true, true, true], by_priority, None, 2_501)
     );
+    // All at once, and a copy of its own.
+    let mut kept = r.settings();
+    let mut other = Receiver::new();
+    other.set_settings(kept);
+    assert_eq!(all(&other), all(&r));
+    kept.set_merge(by_value);
+    assert_eq!(
+        (r.merge(), other.merge(), kept.merge()),
+        (by_priority, by_priority, by_value)
+    );
+}
+
+#[test]
+fn settings_are_a_value() {
+    let fresh = Settings::default();
+    assert_eq!(
+        (fresh, Receiver::new().settings()),
+        (Settings::new(), fresh)
+    );
+    let mut s = fresh;
+    s.set_source_limit(Some(3)).unwrap();
+    assert_ne!(s, fresh);
+    assert_eq!(HashSet::from([s, fresh, s]).len(), 2);
+    assert_eq!(
+        format!("{s:?}"),
+        "Settings { process_preview_data: false, announce_source_discovery: false, announce_stream_termination: false, announce_timeout: false, \
+         merge: DiscardLowestPriorityThenPrevious, source_limit: Some(3), discovery_expiry: 20000 }"
+    );
+    assert_eq!(s.set_source_limit(Some(0)), Err(Stop::LimitZero));
+    assert_eq!(s.set_discovery_expiry(2_499), Err(Stop::ExpiryOutOfRange));
+    assert_eq!((s.source_limit(), s.discovery_expiry()), (Some(3), 20_000));
+    s.set_source_limit(None).unwrap();
+    assert_eq!(s, fresh);
 }
 
 #[test]
@@ -743,6 +831,7 @@ fn a_name_as_text() {
 fn receivers_and_stops_go_between_threads() {
     fn goes<T: Send + Sync + 'static>() {}
     goes::<Receiver>();
+    goes::<Settings>();
     goes::<Stop>();
     goes::<Cid>();
     let mut receiver = listening([1]);
@@ -803,6 +892,9 @@ fn only_making_and_cloning_takes_memory() {
     assert_eq!(stop(r.handle_data_packet(0, &waits(1, 1, 0))).number(), 21);
     assert_eq!(r.listed_sources().flat_map(|s| s.pages()).count(), 1);
     assert_eq!(r.set_discovery_expiry(0), Err(Stop::ExpiryOutOfRange));
+    let kept = r.settings().to_bytes();
+    r.set_settings(Settings::from_bytes(&kept).unwrap());
+    assert!(Settings::from_bytes_layout_1(&kept).is_err());
     r.poll(20_000).unwrap();
     r.remove_expired_sources(20_000);
     assert_eq!((r.data_pairs().len(), r.listed_sources().count()), (0, 0));

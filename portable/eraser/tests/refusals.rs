@@ -358,14 +358,14 @@ fn the_c_boundary() {
         .collect(),
         wanted: vec!["rules".into(), "tamburelvi".into()],
         files: with(f(
-            "a: &Pairs, b: &mut Pairs, c: &[u8], d: &mut [u16], e: Reply, g: usize, h: u32",
+            "a: &Pairs, b: &mut Pairs, c: &[u8], d: &mut [u16], e: Reply, g: usize, h: u32, i: Reply, k: &mut [u8]",
             "Reply",
         )),
     };
     let p = package(&sources).unwrap_or_else(|e| panic!("{e}"));
     assert!(p.files["c.rs"].contains(
-        "pub extern \"C\" fn f(a: &crate::rules::Pairs, b: &mut crate::rules::Pairs, c: *const u8, c_length: usize, d: *mut u16, d_length: usize, e: crate::rules::Reply, g: usize, h: u32) -> crate::rules::Reply {\n    \
-         crate::tamburelvi::f(a, b, unsafe { core::slice::from_raw_parts(c, c_length) }, unsafe { core::slice::from_raw_parts_mut(d, d_length) }, e, g, h)\n}\n"
+        "pub extern \"C\" fn f(a: &crate::rules::Pairs, b: &mut crate::rules::Pairs, c: *const u8, c_length: usize, d: *mut u16, d_length: usize, e: crate::rules::Reply, g: usize, h: u32, i: crate::rules::Reply, k: *mut u8, k_length: usize) -> crate::rules::Reply {\n    \
+         crate::tamburelvi::f(a, b, unsafe { core::slice::from_raw_parts(c, c_length) }, unsafe { core::slice::from_raw_parts_mut(d, d_length) }, e, g, h, i, unsafe { core::slice::from_raw_parts_mut(k, k_length) })\n}\n"
     ), "{}", p.files["c.rs"]);
     assert_eq!(p.symbols, 1);
 }
