@@ -6,12 +6,20 @@ use mathlib.Core.List.{List, [], _∷_, _++_}
 use Prim.Native.Nat.{ℕ}
 use lib.ListN.{take}
 use Rattle.rules.specs.Answer.{Value, number, integer, source, name}
+use Rattle.settings.specs.declared.Settings.{Settings}
+use Rattle.settings.specs.declared.MergeChoice.{MergeChoice}
+use Rattle.settings.specs.declared.MergeChoice.the-variants.{DiscardLowestPriorityThenPrevious, HtpDmxMerge}
+use Rattle.settings.specs.declared.SourceLimit.{SourceLimit}
+use Rattle.settings.specs.declared.SourceLimit.the-variants.{Unlimited, AtMost}
+use Rattle.settings_store.specs.declared.StoreSettingsAnswer.{StoreSettingsAnswer}
+use Rattle.settings_store.specs.declared.StoreSettingsAnswer.the-variants as store
+use Rattle.settings_store.specs.Record.{storeNumber, storeValues}
 use Rattle.model.specs.declared.StepAnswer.{StepAnswer}
 use Rattle.model.specs.declared.StepAnswer.the-variants as says
 use Rattle.model.specs.declared.ClearAnswer.the-variants as clear
 use Rattle.model.specs.Answer.{stepNumber, stepValues, clearNumber, clearValues}
 use Rattle.laws.specs.Ascii.{ascii}
-use Rattle.printing.specs.Text.{decimalOf, signedOf, cidText, byteText, hexText}
+use Rattle.printing.specs.Text.{decimalOf, signedOf, bitOf, cidText, byteText, hexText}
 
 abbrev pub valueText : Value → List ℕ
 valueText (number n) = decimalOf n
@@ -63,3 +71,34 @@ stepLine own out says.WaitingFull = stopLine own says.WaitingFull
 stepLine own out says.PagesFull = stopLine own says.PagesFull
 stepLine own out (says.TooShort n) = stopLine own (says.TooShort n)
 stepLine own out (says.Repeated a l d) = stopLine own (says.Repeated a l d)
+
+-- ── settings ──
+-- "after 0 all LEN bytes as a byte string"
+abbrev pub storeLine : List ℕ → StoreSettingsAnswer → List ℕ
+storeLine bytes store.Stored = answerLine (storeNumber store.Stored) (name bytes ∷ [])
+storeLine bytes (store.TooShort n) = answerLine (storeNumber (store.TooShort n)) (storeValues (store.TooShort n))
+storeLine bytes store.LimitZero = answerLine (storeNumber store.LimitZero) (storeValues store.LimitZero)
+storeLine bytes store.ExpiryOutOfRange = answerLine (storeNumber store.ExpiryOutOfRange) (storeValues store.ExpiryOutOfRange)
+
+abbrev pub spacedBit : Bool → List ℕ
+spacedBit on = 32 ∷ bitOf on
+
+-- "`priority` or `highest`"
+abbrev pub mergeText : MergeChoice → List ℕ
+mergeText DiscardLowestPriorityThenPrevious = ascii "priority"
+mergeText HtpDmxMerge = ascii "highest"
+
+-- "the limit or `none`"
+abbrev pub limitText : SourceLimit → List ℕ
+limitText Unlimited = ascii "none"
+limitText (AtMost n) = decimalOf n
+
+-- "after 0: preview, announce_discovery, announce_termination, announce_timeout (each 0 or 1), `priority` or `highest`, the limit or `none`, the expiry"
+abbrev pub settingsLine : Settings → List ℕ
+settingsLine s =
+    ascii "0"
+    ++ (spacedBit (s .«process_preview_data»)
+    ++ (spacedBit (s .«announce_source_discovery»)
+    ++ (spacedBit (s .«announce_stream_termination»)
+    ++ (spacedBit (s .«announce_timeout»)
+    ++ 32 ∷ (mergeText (s .merge) ++ 32 ∷ (limitText (s .«source_limit») ++ 32 ∷ answerLine (s .«discovery_expiry») []))))))

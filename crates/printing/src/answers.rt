@@ -5,9 +5,11 @@ ghost use lib.ListN.{take};
 ghost use Rattle.rules.specs.Answer.{number, integer, source, name};
 ghost use Rattle.model.specs.Answer.{pollNumber, pollValues, expiryNumber, expiryValues, listenNumber, listenValues, muteNumber, muteValues, clearNumber, clearValues};
 ghost use Rattle.settings.specs.Settings.{numberOf, valuesOf};
+ghost use Rattle.settings_store.specs.Record.{loadNumber, loadValues};
 ghost use Rattle.printing.specs.Text.{Ready, Tells};
-ghost use Rattle.printing.specs.Answers.{answerLine, flagLine, releaseLine, stepLine};
+ghost use Rattle.printing.specs.Answers.{answerLine, flagLine, releaseLine, stepLine, storeLine, spacedBit, mergeText, limitText, settingsLine};
 use crate::print::put;
+use crate::print::put_bit;
 use crate::print::put_byte_string;
 use crate::print::put_cid;
 use crate::print::put_decimal;
@@ -21,7 +23,12 @@ use model::MuteAnswer;
 use model::PollAnswer;
 use model::StepAnswer;
 use rules::Cid;
+use settings::MergeChoice;
 use settings::SettingAnswer;
+use settings::Settings;
+use settings::SourceLimit;
+use settings_store::LoadSettingsAnswer;
+use settings_store::StoreSettingsAnswer;
 
 // The first n elements, or all.
 pub fn front(bytes: &[u8], n: usize) -> &[u8]
@@ -91,14 +98,15 @@ fn put_sequence(out: &mut [u8], at: usize, n: u64, arriving: u8, last: u8, diffe
     put(&mut *out, h, 10)
 }
 
-// 9 with the packet's name.
-fn put_discovered(out: &mut [u8], at: usize, own: &[u8]) -> usize
+// A number with a byte string.
+fn put_named(out: &mut [u8], at: usize, n: u64, bytes: &[u8]) -> usize
     requires { ⌜ Ready at (now out) ⌝ }
-    ensures { λ r. ⌜ Tells (answerLine 9 (name (now (own .entry)) ∷ [])) (now (out .entry)) at (now (out .exit)) r ⌝ }
+    ensures { λ r. ⌜ Tells (answerLine n (name (now («bytes» .entry)) ∷ [])) (now (out .entry)) at (now (out .exit)) r ⌝ }
 {
-    let a = put_text(&mut *out, at, b"9 ");
-    let b = put_byte_string(&mut *out, a, own);
-    put(&mut *out, b, 10)
+    let a = put_decimal(&mut *out, at, n);
+    let b = put(&mut *out, a, 32);
+    let d = put_byte_string(&mut *out, b, bytes);
+    put(&mut *out, d, 10)
 }
 
 // A release: records, bytes and the bytes themselves.
@@ -130,7 +138,7 @@ pub fn put_step(out: &mut [u8], at: usize, answer: StepAnswer, own: &[u8], relea
         StepAnswer::SourcesExceeded(n) => put_value(out, at, 6, n as u64),
         StepAnswer::OutOfSequence(a, l, d) => put_sequence(out, at, 7, a, l, d),
         StepAnswer::DmxMergeError => put_number(out, at, 8),
-        StepAnswer::SourceDiscovered => put_discovered(out, at, own),
+        StepAnswer::SourceDiscovered => put_named(out, at, 9, own),
         StepAnswer::PairsFull => put_number(out, at, 10),
         StepAnswer::ListenedFull => put_number(out, at, 11),
         StepAnswer::WaitingFull => put_number(out, at, 12),
@@ -202,4 +210,76 @@ pub fn put_setting(out: &mut [u8], at: usize, answer: SettingAnswer) -> usize
         SettingAnswer::LimitZero => put_number(out, at, 14),
         SettingAnswer::ExpiryOutOfRange => put_number(out, at, 20),
     }
+}
+
+// The writer's answer, with all lent bytes after 0.
+pub fn put_store(out: &mut [u8], at: usize, answer: StoreSettingsAnswer, bytes: &[u8]) -> usize
+    requires { ⌜ Ready at (now out) ⌝ }
+    ensures { λ r. ⌜ Tells (storeLine (now («bytes» .entry)) answer) (now (out .entry)) at (now (out .exit)) r ⌝ }
+{
+    match answer {
+        StoreSettingsAnswer::Stored => put_named(out, at, 0, bytes),
+        StoreSettingsAnswer::TooShort(n) => put_value(out, at, 15, n as u64),
+        StoreSettingsAnswer::LimitZero => put_number(out, at, 14),
+        StoreSettingsAnswer::ExpiryOutOfRange => put_number(out, at, 20),
+    }
+}
+
+pub fn put_load(out: &mut [u8], at: usize, answer: LoadSettingsAnswer) -> usize
+    requires { ⌜ Ready at (now out) ⌝ }
+    ensures { λ r. ⌜ Tells (answerLine (loadNumber answer) (loadValues answer)) (now (out .entry)) at (now (out .exit)) r ⌝ }
+{
+    match answer {
+        LoadSettingsAnswer::Loaded(_) => put_number(out, at, 0),
+        LoadSettingsAnswer::NoSettingsRecord => put_number(out, at, 22),
+        LoadSettingsAnswer::UnreadableSettingsRecord => put_number(out, at, 23),
+    }
+}
+
+fn put_spaced_bit(out: &mut [u8], at: usize, on: bool) -> usize
+    requires { ⌜ Ready at (now out) ⌝ }
+    ensures { λ r. ⌜ Tells (spacedBit on) (now (out .entry)) at (now (out .exit)) r ⌝ }
+{
+    let a = put(&mut *out, at, 32);
+    put_bit(&mut *out, a, on)
+}
+
+fn put_merge(out: &mut [u8], at: usize, choice: MergeChoice) -> usize
+    requires { ⌜ Ready at (now out) ⌝ }
+    ensures { λ r. ⌜ Tells (mergeText choice) (now (out .entry)) at (now (out .exit)) r ⌝ }
+{
+    match choice {
+        MergeChoice::DiscardLowestPriorityThenPrevious => put_text(out, at, b"priority"),
+        MergeChoice::HtpDmxMerge => put_text(out, at, b"highest"),
+    }
+}
+
+fn put_limit(out: &mut [u8], at: usize, limit: SourceLimit) -> usize
+    requires { ⌜ Ready at (now out) ⌝ }
+    ensures { λ r. ⌜ Tells (limitText limit) (now (out .entry)) at (now (out .exit)) r ⌝ }
+{
+    match limit {
+        SourceLimit::Unlimited => put_text(out, at, b"none"),
+        SourceLimit::AtMost(n) => put_decimal(out, at, n as u64),
+    }
+}
+
+// 0 and every setting.
+pub fn put_settings(out: &mut [u8], at: usize, settings: Settings) -> usize
+    requires { ⌜ Ready at (now out) ⌝ }
+    ensures { λ r. ⌜ Tells (settingsLine settings) (now (out .entry)) at (now (out .exit)) r ⌝ }
+{
+    let merge = settings.merge;
+    let limit = settings.source_limit;
+    let a = put(&mut *out, at, 48);
+    let b = put_spaced_bit(&mut *out, a, settings.process_preview_data);
+    let d = put_spaced_bit(&mut *out, b, settings.announce_source_discovery);
+    let e = put_spaced_bit(&mut *out, d, settings.announce_stream_termination);
+    let f = put_spaced_bit(&mut *out, e, settings.announce_timeout);
+    let g = put(&mut *out, f, 32);
+    let h = put_merge(&mut *out, g, merge);
+    let i = put(&mut *out, h, 32);
+    let j = put_limit(&mut *out, i, limit);
+    let k = put(&mut *out, j, 32);
+    put_number(&mut *out, k, settings.discovery_expiry as u64)
 }

@@ -4,11 +4,16 @@ use mathlib.Core.Path.{_≡_}
 use mathlib.Core.Bool.{Bool, cond}
 use mathlib.Core.List.{List, [], _∷_, _++_}
 use Prim.Native.Nat.{ℕ, _≤_}
-use lib.ListN.{length, take}
+use lib.ListN.{length, take, replicate}
 use Rattle.rules.specs.Answer.{Value}
 use Rattle.settings.specs.declared.Settings.{Settings}
 use Rattle.settings.specs.declared.Adjusted.{Adjusted}
+use Rattle.settings.specs.declared.SourceLimit.the-variants.{AtMost}
 use Rattle.settings.specs.Settings as setting
+use Rattle.settings_store.specs.declared.Layouts.{Layouts}
+use Rattle.settings_store.specs.declared.LoadSettingsAnswer.{LoadSettingsAnswer}
+use Rattle.settings_store.specs.declared.LoadSettingsAnswer.the-variants as load
+use Rattle.settings_store.specs.Record.{store-answer, store-bytes, loaded, loadNumber, loadValues}
 use Rattle.waiting.specs.Records.{records, over}
 use Rattle.waiting.specs.Waiting.{store-length}
 use Rattle.lengths.specs.Space.{bytes}
@@ -29,12 +34,14 @@ use Rattle.script.specs.declared.parse.Command.{Command}
 use Rattle.script.specs.declared.parse.Command.the-variants as says
 use Rattle.script.specs.declared.parse.Setting.{Setting}
 use Rattle.script.specs.declared.parse.Setting.the-variants as sets
+use Rattle.script.specs.declared.parse.SettingsLine.{SettingsLine}
+use Rattle.script.specs.declared.parse.SettingsLine.the-variants as asks
 use Rattle.replay.specs.declared.calls.Session.{Session}
 use Rattle.script.specs.declared.lines.Input.{Input}
 use Rattle.laws.specs.Ascii.{ascii}
 use Rattle.script.specs.Lines.{Unread, silent}
 use Rattle.printing.specs.Text.{Ready, Tells}
-use Rattle.printing.specs.Answers.{answerLine, flagLine, stepLine}
+use Rattle.printing.specs.Answers.{answerLine, flagLine, stepLine, storeLine, settingsLine}
 use Rattle.replay.specs.Dump.{dumpText}
 use Rattle.script.specs.Script.{lineOf}
 
@@ -98,12 +105,42 @@ adjusted (sets.Merge choice) S s = set-to (setting.withMerge choice S) s
 adjusted sets.NoLimit S s = set-to (setting.withoutLimit S) s
 adjusted (sets.Limit n) S s = answered (setting.limited n S) s
 adjusted (sets.Expiry n) S s = answered (setting.expiring n S) s
+-- "puts a value into the settings past the setter"
+adjusted (sets.RawLimit n) S s = set-to (setting.withLimit (AtMost n) S) s
+adjusted (sets.RawExpiry n) S s = set-to (setting.withExpiry n S) s
+
+-- the writer on lent bytes; "after 0 all LEN bytes as a byte string"
+abbrev pub stored : List ℕ → Settings → State → Outcome
+stored lent S s = outcome S s (storeLine (store-bytes S lent) (store-answer S (length lent)))
+
+-- "after 0 the script's settings are those that were read"; else they stay
+abbrev pub settings-read : LoadSettingsAnswer → Settings → Settings
+settings-read (load.Loaded read) S = read
+settings-read load.NoSettingsRecord S = S
+settings-read load.UnreadableSettingsRecord S = S
+
+-- "the reader, and the reader that knows layout 1 alone"
+abbrev pub restored : Layouts → List ℕ → Settings → State → Outcome
+restored layouts bytes S s =
+    let a = loaded layouts bytes in
+    outcome (settings-read a S) s (answerLine (loadNumber a) (loadValues a))
+
+-- "after 0: preview, announce_discovery, .., the expiry"
+abbrev pub shown : Settings → State → Outcome
+shown S s = outcome S s (settingsLine S)
+
+-- written into "LEN lent bytes that each hold cc (hexadecimal)", read, or shown; the state has no part in it
+abbrev pub recorded : List ℕ → SettingsLine → Settings → State → Outcome
+recorded bs (asks.Store n) S s = stored (replicate n 0xCC) S s
+recorded bs (asks.Load n layouts) S s = restored layouts (take n bs) S s
+recorded bs asks.Show S s = shown S s
 
 -- each command, with the bytes and the numbers that its line put into lent memory
 abbrev pub carried : Memory → List ℕ → List ℕ → List ℕ → Command → Settings → State → Outcome
 carried m output bs us says.Error S s = refused S s
 carried m output bs us says.Fresh S s = begun
 carried m output bs us (says.Set x) S s = adjusted x S s
+carried m output bs us (says.Settings x) S s = recorded bs x S s
 carried m output bs us (says.Listen n) S s = called (listen-call (take n us)) listenNumber listenValues S s
 carried m output bs us (says.Mute u) S s = called (mute-call u) muteNumber muteValues S s
 carried m output bs us (says.Listening u) S s = asked u S s

@@ -2,7 +2,10 @@
 -- Assumes nothing.
 use mathlib.Core.Path.{_≡_, refl, sym, ap, subst, _∙_}
 use mathlib.Core.List.{List, []}
-use Prim.Native.Nat.{ℕ}
+use Prim.Native.Nat.{ℕ, _+_, _-_, _≤_}
+use native.Mathlib.Omega.{arith}
+use lib.ListN.{take, replicate, length-replicate, replicate-append-replicate}
+use lib.Seq.{take-at}
 use Rattle.rules.specs.Answer.{Value}
 use Rattle.settings.specs.declared.Settings.{Settings}
 use Rattle.settings.specs.Settings as setting
@@ -109,3 +112,9 @@ carries-as e x = record {
   told = tells-as (ap (λ (o : Outcome). o .text) e) (x .told);
   kept-on = x .kept-on;
 }
+
+-- the front of bytes that are all alike
+pub front-alike : (k x n : ℕ) {l : List ℕ} → l ≡ replicate k x → n ≤ k → take n l ≡ replicate n x
+front-alike k x n e h =
+    let s : n + (k - n) ≡ k = omega arith in
+    ap (take n) (e ∙ sym (replicate-append-replicate n (k - n) x ∙ ap (λ (i : ℕ). replicate i x) s)) ∙ take-at (replicate n x) (replicate (k - n) x) n (length-replicate n x)

@@ -31,10 +31,15 @@ use Rattle.script.specs.declared.parse.Stamped.the-variants as stamped
 use Rattle.script.specs.declared.parse.DataNumbers.{DataNumbers}
 use Rattle.script.specs.declared.parse.Numbered.{Numbered}
 use Rattle.script.specs.declared.parse.Numbered.the-variants as numbered
+use Rattle.script.specs.declared.parse.SettingsLine.the-variants as asks
+use Rattle.script.specs.declared.parse.Known.{Known}
+use Rattle.script.specs.declared.parse.Known.the-variants as known
 use Rattle.script.specs.declared.parse.Command.{Command}
 use Rattle.script.specs.declared.parse.Command.the-variants as says
 use Rattle.script.specs.declared.parse.SettingWord.{SettingWord}
 use Rattle.script.specs.declared.parse.SettingWord.the-variants as setting
+use Rattle.script.specs.declared.parse.RecordWord.{RecordWord}
+use Rattle.script.specs.declared.parse.RecordWord.the-variants as records
 use Rattle.script.specs.declared.parse.UniverseWord.{UniverseWord}
 use Rattle.script.specs.declared.parse.UniverseWord.the-variants as universe
 use Rattle.script.specs.declared.parse.ReadingWord.{ReadingWord}
@@ -44,18 +49,21 @@ use Rattle.script.specs.declared.parse.Word.the-variants as word
 use Rattle.laws.specs.Ascii.{ascii}
 use Rattle.script.specs.Fields.{eql, ending, numberOf, smallOf, octetOf, flagOf, byteStringOf, listOf}
 use Rattle.script.specs.Script
-use Rattle.script.specs.Script.{Reading, Reads, plain, firstOf, restOf, pastFive, loneOf, wordOf, flagged, aimed, timed, mergeOf, limit-number, limitOf, expiry-said, stampOf, numbersOf, data-values, data-numbers, data-stamp, dataOf, sync-sequence, sync-address, sync-stamp, syncOf, page-universes, page-name, page-last, page-number, page-stamp, discoveryOf, listen-list, fieldsOf, lineOf}
+use Rattle.script.specs.Script.{Reading, Reads, plain, firstOf, restOf, pastFive, loneOf, wordOf, flagged, aimed, timed, mergeOf, limit-number, limitOf, expiry-said, raw-limit-said, raw-expiry-said, store-said, layoutsOf, load-bytes, load-known, recordOf, stampOf, numbersOf, data-values, data-numbers, data-stamp, dataOf, sync-sequence, sync-address, sync-stamp, syncOf, page-universes, page-name, page-last, page-number, page-stamp, discoveryOf, listen-list, fieldsOf, lineOf}
 use Rattle.script.specs.Lines.{silent}
-use Rattle.replay.specs.Session.{Outcome, outcome, called, stepped, refused, carried, spoken}
+use Rattle.replay.specs.Session.{Outcome, outcome, called, stepped, refused, restored, carried, spoken}
 
 -- the counts of a command are the lengths of its bytes and numbers
 abbrev Counted : Command → List ℕ → List ℕ → Type 0
 Counted (says.Data l) bs us = l .count ≡ length bs
 Counted (says.Discovery l) bs us = (l .name ≡ length bs) × (l .count ≡ length us)
 Counted (says.Listen n) bs us = n ≡ length us
+Counted (says.Settings (asks.Load n k)) bs us = n ≡ length bs
 Counted says.Error bs us = Unit {0}
 Counted says.Fresh bs us = Unit {0}
 Counted (says.Set x) bs us = Unit {0}
+Counted (says.Settings (asks.Store n)) bs us = Unit {0}
+Counted (says.Settings asks.Show) bs us = Unit {0}
 Counted (says.Mute u) bs us = Unit {0}
 Counted (says.Listening u) bs us = Unit {0}
 Counted (says.Poll n) bs us = Unit {0}
@@ -102,6 +110,29 @@ expiry-counts : (x : Number) → Counts (plain (expiry-said x))
 expiry-counts (number.Of n) = tt
 expiry-counts number.Bad = tt
 
+raw-limit-counts : (x : Small) → Counts (plain (raw-limit-said x))
+raw-limit-counts (small.Of n) = tt
+raw-limit-counts small.Bad = tt
+
+raw-expiry-counts : (x : Number) → Counts (plain (raw-expiry-said x))
+raw-expiry-counts (number.Of n) = tt
+raw-expiry-counts number.Bad = tt
+
+store-counts : (x : Number) → Counts (plain (store-said x))
+store-counts (number.Of n) = tt
+store-counts number.Bad = tt
+
+load-counts : (x : Known) (o : Option (List ℕ)) → Counts (load-known x o)
+load-counts (known.Of k) (some l) = refl
+load-counts (known.Of k) none = tt
+load-counts known.Bad o = tt
+
+record-counts : (room : ℕ) (w : RecordWord) (s : List ℕ) → Counts (recordOf room w s)
+record-counts room records.RawLimit s = raw-limit-counts (smallOf s)
+record-counts room records.RawExpiry s = raw-expiry-counts (numberOf 4294967295 s)
+record-counts room records.Store s = store-counts (numberOf 64 s)
+record-counts room records.Load s = load-counts (layoutsOf s) (byteStringOf room (firstOf s))
+
 lone-counts : (s : List ℕ) → Counts (plain (loneOf s))
 lone-counts s =
     split (eql s (ascii "fresh")) (λ e. rw e tt) (λ e.
@@ -109,7 +140,8 @@ lone-counts s =
     rw f (split (eql s (ascii "reset")) (λ g. rw g tt) (λ g.
     rw g (split (eql s (ascii "reset_pairs")) (λ h. rw h tt) (λ h.
     rw h (split (eql s (ascii "reset_discovery")) (λ i. rw i tt) (λ i.
-    rw i (split (eql s (ascii "dump")) (λ j. rw j tt) (λ j. rw j tt)))))))))))
+    rw i (split (eql s (ascii "dump")) (λ j. rw j tt) (λ j.
+    rw j (split (eql s (ascii "settings")) (λ k. rw k tt) (λ k. rw k tt)))))))))))))
 
 sequence-counts : (t : Stamp) (a : ℕ) (x : Octet) → Counts (plain (sync-sequence t a x))
 sequence-counts t a (octet.Of q) = tt
@@ -171,6 +203,7 @@ fields-counts room places word.Merge s =
 fields-counts room places word.Limit s = split (eql s (ascii "none")) (λ e. rw e tt) (λ e. rw e (number-counts (smallOf s)))
 fields-counts room places word.Expiry s = expiry-counts (numberOf 4294967295 s)
 fields-counts room places (word.Setting w) s = set-counts w (flagOf s)
+fields-counts room places (word.Record w) s = record-counts room w s
 fields-counts room places (word.Universe w) s = aim-counts w (smallOf s)
 fields-counts room places (word.Reading w) s = time-counts w (numberOf Script.most s)
 
@@ -193,9 +226,12 @@ module _ (m : Memory) (output : List ℕ) (S : Settings) (s : State) where
       ap (λ (x : List ℕ). stepped (spaceIn m output) output x (l .«now») (discovery-packet (announcementOf (l .packet) x (take (l .count) us))) S s) (front-same (l .name) bs cs (h .0) p)
       ∙ ap (λ (x : List ℕ). stepped (spaceIn m output) output (take (l .name) cs) (l .«now») (discovery-packet (announcementOf (l .packet) (take (l .name) cs) x)) S s) (front-same (l .count) us vs (h .1) q)
   alike (says.Listen n) bs us cs vs h p q = ap (λ (x : List ℕ). called (listen-call x) listenNumber listenValues S s) (front-same n us vs h q)
+  alike (says.Settings (asks.Load n k)) bs us cs vs h p q = ap (λ (x : List ℕ). restored k x S s) (front-same n bs cs h p)
   alike says.Error bs us cs vs h p q = refl
   alike says.Fresh bs us cs vs h p q = refl
   alike (says.Set x) bs us cs vs h p q = refl
+  alike (says.Settings (asks.Store n)) bs us cs vs h p q = refl
+  alike (says.Settings asks.Show) bs us cs vs h p q = refl
   alike (says.Mute u) bs us cs vs h p q = refl
   alike (says.Listening u) bs us cs vs h p q = refl
   alike (says.Poll n) bs us cs vs h p q = refl

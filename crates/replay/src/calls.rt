@@ -2,7 +2,9 @@
 ghost use mathlib.Core.Path.{_≡_};
 ghost use mathlib.Core.List.{[]};
 ghost use Prim.Native.Nat.{_≤_};
-ghost use lib.ListN.{length, take};
+ghost use lib.ListN.{length, take, replicate};
+ghost use Rattle.settings.specs.declared.SourceLimit.the-variants.{AtMost};
+ghost use Rattle.settings.specs.Settings.{withLimit, withExpiry};
 ghost use Rattle.waiting.specs.Waiting.{store-length};
 ghost use Rattle.waiting_store.specs.Entries as waiting;
 ghost use Rattle.listening.specs.View as listening;
@@ -18,7 +20,7 @@ ghost use Rattle.discovery.specs.Discovery.{pool-length};
 ghost use Rattle.receiver.specs.View.{Memory, memory, with-sequence-rows, with-waiting-rows, with-listened-rows, with-discovery-rows, stateOf, spaceIn, Kept, Becomes};
 ghost use Rattle.packets.specs.View.{announcementOf};
 ghost use Rattle.printing.specs.Text.{Ready};
-ghost use Rattle.replay.specs.Session.{begun, set-to, answered, called, changed, resetting, asked, stepped, Carries};
+ghost use Rattle.replay.specs.Session.{begun, set-to, answered, stored, settings-read, restored, shown, recorded, called, changed, resetting, asked, stepped, Carries};
 ghost use Rattle.model.specs.Step.{most-listened};
 use crate::dump::front_numbers;
 use discovery_rows::HeadRows;
@@ -35,18 +37,27 @@ use printing::answers::put_clear;
 use printing::answers::put_expiry;
 use printing::answers::put_flag;
 use printing::answers::put_listen;
+use printing::answers::put_load;
 use printing::answers::put_mute;
 use printing::answers::put_number;
 use printing::answers::put_poll;
 use printing::answers::put_setting;
+use printing::answers::put_settings;
 use printing::answers::put_step;
+use printing::answers::put_store;
 use receiver::Receiver;
 use script::parse::DataLine;
 use script::parse::PageLine;
 use script::parse::Reset;
+use script::parse::SettingsLine;
 use script::parse::SyncLine;
 use settings::Adjusted;
 use settings::Settings;
+use settings::SourceLimit;
+use settings_calls::load_settings;
+use settings_calls::store_settings;
+use settings_store::Layouts;
+use settings_store::LoadSettingsAnswer;
 use waiting_store::EntryRows;
 
 // What one command leaves for the next: the receiver, its settings, and how much is still to be written out.
@@ -100,6 +111,122 @@ pub fn set_answered(session: Session, adjusted: Adjusted, out: &mut [u8]) -> Ses
         receiver: receiver,
         settings: settings,
         at: at,
+    }
+}
+
+// Any limit, past the setter.
+pub fn with_raw_limit(s: Settings, limit: u16) -> Settings
+    ensures { λ r. ⌜ r ≡ withLimit (AtMost limit) s ⌝ }
+{
+    let merge = s.merge;
+    Settings {
+        process_preview_data: s.process_preview_data,
+        announce_source_discovery: s.announce_source_discovery,
+        announce_stream_termination: s.announce_stream_termination,
+        announce_timeout: s.announce_timeout,
+        merge: merge,
+        source_limit: SourceLimit::AtMost(limit),
+        discovery_expiry: s.discovery_expiry,
+    }
+}
+
+// Any expiry, past the setter.
+pub fn with_raw_expiry(s: Settings, expiry: u32) -> Settings
+    ensures { λ r. ⌜ r ≡ withExpiry expiry s ⌝ }
+{
+    let mut t = s;
+    t.discovery_expiry = expiry;
+    t
+}
+
+// The writer on lent bytes; the settings are left.
+fn store(session: Session, lent: &mut [u8], out: &mut [u8]) -> Session
+    requires { ⌜ Ready (session .at) (now out) ⌝ }
+    ensures { λ r. ⌜ ((m : Memory) → Carries session m (now (out .entry))
+        (stored (now (lent .entry)) (session .settings) (stateOf (session .receiver) m)) r m (now (out .exit))) ⌝ }
+{
+    let receiver = session.receiver;
+    let settings = session.settings;
+    let answer = store_settings(settings, &mut *lent);
+    let at = put_store(out, session.at, answer, &*lent);
+    Session {
+        receiver: receiver,
+        settings: settings,
+        at: at,
+    }
+}
+
+// As many bytes as LEN can ask for, each of them cc.
+fn blank() -> [u8; 255]
+    ensures { λ r. ⌜ r ≡ replicate 255 0xCC ⌝ }
+{
+    [0xCC; 255]
+}
+
+// The writer on so many of them.
+fn store_on(session: Session, len: u8, out: &mut [u8]) -> Session
+    requires { ⌜ Ready (session .at) (now out) ⌝ }
+    ensures { λ r. ⌜ ((m : Memory) → Carries session m (now (out .entry))
+        (stored (replicate len 0xCC) (session .settings) (stateOf (session .receiver) m)) r m (now (out .exit))) ⌝ }
+{
+    let n = len as usize;
+    let mut lent = blank();
+    store(session, &mut lent[..n], out)
+}
+
+// The settings that were read or, where the reader stops, those of before.
+fn settings_read(answer: LoadSettingsAnswer, before: Settings) -> Settings
+    ensures { λ r. ⌜ r ≡ settings-read answer before ⌝ }
+{
+    match answer {
+        LoadSettingsAnswer::Loaded(read) => read,
+        LoadSettingsAnswer::NoSettingsRecord => before,
+        LoadSettingsAnswer::UnreadableSettingsRecord => before,
+    }
+}
+
+fn load(session: Session, layouts: Layouts, bytes: &[u8], out: &mut [u8]) -> Session
+    requires { ⌜ Ready (session .at) (now out) ⌝ }
+    ensures { λ r. ⌜ ((m : Memory) → Carries session m (now (out .entry))
+        (restored layouts (now («bytes» .entry)) (session .settings) (stateOf (session .receiver) m)) r m (now (out .exit))) ⌝ }
+{
+    let receiver = session.receiver;
+    let before = session.settings;
+    let answer = load_settings(layouts, bytes);
+    let settings = settings_read(answer, before);
+    let at = put_load(out, session.at, answer);
+    Session {
+        receiver: receiver,
+        settings: settings,
+        at: at,
+    }
+}
+
+fn tell(session: Session, out: &mut [u8]) -> Session
+    requires { ⌜ Ready (session .at) (now out) ⌝ }
+    ensures { λ r. ⌜ ((m : Memory) → Carries session m (now (out .entry))
+        (shown (session .settings) (stateOf (session .receiver) m)) r m (now (out .exit))) ⌝ }
+{
+    let receiver = session.receiver;
+    let settings = session.settings;
+    let at = put_settings(out, session.at, settings);
+    Session {
+        receiver: receiver,
+        settings: settings,
+        at: at,
+    }
+}
+
+// The settings are written, read or shown.
+pub fn carry_settings(session: Session, line: SettingsLine, bytes: &[u8], out: &mut [u8]) -> Session
+    requires { ⌜ Ready (session .at) (now out) ⌝ }
+    ensures { λ r. ⌜ ((m : Memory) → Carries session m (now (out .entry))
+        (recorded (now («bytes» .entry)) line (session .settings) (stateOf (session .receiver) m)) r m (now (out .exit))) ⌝ }
+{
+    match line {
+        SettingsLine::Store(len) => store_on(session, len, out),
+        SettingsLine::Load(n, layouts) => load(session, layouts, front(bytes, n), out),
+        SettingsLine::Show => tell(session, out),
     }
 }
 

@@ -9,6 +9,7 @@ ghost use Rattle.replay.specs.Session.{refused, adjusted, dumped, carrie
 use crate::calls::Session;
 use crate::calls::ask;
 use crate::calls::begin;
+use crate::calls::carry_settings;
 use crate::calls::clear;
 use crate::calls::clear_all;
 use crate::calls::listen;
@@ -21,6 +22,8 @@ use crate::calls::step_data;
 use crate::calls::step_discovery;
 use crate::calls::step_sync;
 use crate::calls::sweep;
+use crate::calls::with_raw_expiry;
+use crate::calls::with_raw_limit;
 use crate::dump::dump;
 use discovery_rows::HeadRows;
 use discovery_rows::NameRows;
@@ -76,6 +79,8 @@ fn adjust(session: Session, setting: Setting, out: &mut [u8]) -> Session
         Setting::NoLimit => set(session, s.clear_source_limit(), out),
         Setting::Limit(n) => set_answered(session, s.set_source_limit(n), out),
         Setting::Expiry(n) => set_answered(session, s.set_discovery_expiry(n), out),
+        Setting::RawLimit(n) => set(session, with_raw_limit(s, n), out),
+        Setting::RawExpiry(n) => set(session, with_raw_expiry(s, n), out),
     }
 }
 
@@ -241,6 +246,7 @@ fn execute(
         Command::Listening(universe) => ask(session, &*heard, universe, out),
         Command::Fresh => begin(session, heard, out),
         Command::Set(setting) => adjust(session, setting, out),
+        Command::Settings(line) => carry_settings(session, line, bytes, out),
         Command::ClearAll => clear_all(session, out),
         Command::Reset(what) => reset(session, what, out),
         Command::Error => refuse(session, out),

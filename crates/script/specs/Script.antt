@@ -9,6 +9,8 @@ use lib.Dec.{ltb, eqb}
 use lib.ListN.{length, take, drop}
 use Rattle.rules.specs.declared.Cid.{Cid}
 use Rattle.settings.specs.declared.MergeChoice.the-variants.{DiscardLowestPriorityThenPrevious, HtpDmxMerge}
+use Rattle.settings_store.specs.declared.Layouts.{Layouts}
+use Rattle.settings_store.specs.declared.Layouts.the-variants as layouts
 use Rattle.packets.specs.declared.DataPacket.{DataPacket}
 use Rattle.script.specs.declared.fields.Number.{Number}
 use Rattle.script.specs.declared.fields.Number.the-variants as number
@@ -27,11 +29,16 @@ use Rattle.script.specs.declared.parse.DataNumbers.{DataNumbers}
 use Rattle.script.specs.declared.parse.Numbered.{Numbered}
 use Rattle.script.specs.declared.parse.Numbered.the-variants as numbered
 use Rattle.script.specs.declared.parse.Setting.the-variants as sets
+use Rattle.script.specs.declared.parse.SettingsLine.the-variants as asks
+use Rattle.script.specs.declared.parse.Known.{Known}
+use Rattle.script.specs.declared.parse.Known.the-variants as known
 use Rattle.script.specs.declared.parse.Reset.the-variants as resets
 use Rattle.script.specs.declared.parse.Command.{Command}
 use Rattle.script.specs.declared.parse.Command.the-variants as says
 use Rattle.script.specs.declared.parse.SettingWord.{SettingWord}
 use Rattle.script.specs.declared.parse.SettingWord.the-variants as setting
+use Rattle.script.specs.declared.parse.RecordWord.{RecordWord}
+use Rattle.script.specs.declared.parse.RecordWord.the-variants as records
 use Rattle.script.specs.declared.parse.UniverseWord.{UniverseWord}
 use Rattle.script.specs.declared.parse.UniverseWord.the-variants as universe
 use Rattle.script.specs.declared.parse.ReadingWord.{ReadingWord}
@@ -66,7 +73,16 @@ loneOf w =
     (cond (eql w (ascii "reset_pairs")) (says.Reset resets.Pairs)
     (cond (eql w (ascii "reset_discovery")) (says.Reset resets.Discovery)
     (cond (eql w (ascii "dump")) says.Dump
-    says.Error)))))
+    (cond (eql w (ascii "settings")) (says.Settings asks.Show)
+    says.Error))))))
+
+unfoldable pub recordWord : List ℕ → Word
+recordWord w =
+    cond (eql w (ascii "raw_limit")) (word.Record records.RawLimit)
+    (cond (eql w (ascii "raw_expiry")) (word.Record records.RawExpiry)
+    (cond (eql w (ascii "store_settings")) (word.Record records.Store)
+    (cond (eql w (ascii "load_settings")) (word.Record records.Load)
+    word.Unknown)))
 
 unfoldable pub settingWord : List ℕ → Word
 settingWord w =
@@ -77,7 +93,7 @@ settingWord w =
     (cond (eql w (ascii "merge")) word.Merge
     (cond (eql w (ascii "limit")) word.Limit
     (cond (eql w (ascii "expiry")) word.Expiry
-    word.Unknown))))))
+    (recordWord w)))))))
 
 unfoldable pub callWord : List ℕ → Word
 callWord w =
@@ -150,6 +166,29 @@ expiry-said number.Bad = says.Error
 
 abbrev pub expiryOf : List ℕ → Command
 expiryOf s = expiry-said (numberOf 4294967295 s)
+
+-- "puts a value into the settings past the setter", N as the setter's
+abbrev pub raw-limit-said : Small → Command
+raw-limit-said (small.Of n) = says.Set (sets.RawLimit n)
+raw-limit-said small.Bad = says.Error
+
+abbrev pub rawLimitOf : List ℕ → Command
+rawLimitOf s = raw-limit-said (smallOf s)
+
+abbrev pub raw-expiry-said : Number → Command
+raw-expiry-said (number.Of n) = says.Set (sets.RawExpiry n)
+raw-expiry-said number.Bad = says.Error
+
+abbrev pub rawExpiryOf : List ℕ → Command
+rawExpiryOf s = raw-expiry-said (numberOf 4294967295 s)
+
+-- "`store_settings LEN`: .. LEN up to 64"
+abbrev pub store-said : Number → Command
+store-said (number.Of n) = says.Settings (asks.Store n)
+store-said number.Bad = says.Error
+
+abbrev pub storeOf : List ℕ → Command
+storeOf s = store-said (numberOf 64 s)
 
 -- ── packets: field after field ──
 abbrev pub stamp-cid : ℕ → Source → Stamped
@@ -278,6 +317,29 @@ listen-list none = plain says.Error
 abbrev pub listenOf : ℕ → List ℕ → Reading
 listenOf places s = listen-list (listOf places s)
 
+-- "`load_settings HEX`, `load_settings HEX 1`: the reader, and the reader that knows layout 1 alone"
+abbrev pub layoutsOf : List ℕ → Known
+layoutsOf s =
+    cond (ltb (ending 32 s) (length s)) (cond (eql (restOf s) (ascii "1")) (known.Of layouts.First) known.Bad)
+    (known.Of layouts.Both)
+
+abbrev pub load-bytes : Layouts → Option (List ℕ) → Reading
+load-bytes k (some l) = record { command = says.Settings (asks.Load (length l) k); bytes = l; numbers = [] }
+load-bytes k none = plain says.Error
+
+abbrev pub load-known : Known → Option (List ℕ) → Reading
+load-known (known.Of k) o = load-bytes k o
+load-known known.Bad o = plain says.Error
+
+abbrev pub loadOf : ℕ → List ℕ → Reading
+loadOf room s = load-known (layoutsOf s) (byteStringOf room (firstOf s))
+
+abbrev pub recordOf : ℕ → RecordWord → List ℕ → Reading
+recordOf room records.RawLimit s = plain (rawLimitOf s)
+recordOf room records.RawExpiry s = plain (rawExpiryOf s)
+recordOf room records.Store s = plain (storeOf s)
+recordOf room records.Load s = loadOf room s
+
 abbrev pub fieldsOf : ℕ → ℕ → Word → List ℕ → Reading
 fieldsOf room places word.Unknown s = plain says.Error
 fieldsOf room places word.Data s = dataOf room s
@@ -288,6 +350,7 @@ fieldsOf room places word.Merge s = plain (mergeOf s)
 fieldsOf room places word.Limit s = plain (limitOf s)
 fieldsOf room places word.Expiry s = plain (expiryOf s)
 fieldsOf room places (word.Setting w) s = plain (settingOf w s)
+fieldsOf room places (word.Record w) s = recordOf room w s
 fieldsOf room places (word.Universe w) s = plain (universeOf w s)
 fieldsOf room places (word.Reading w) s = plain (readingOf w s)
 

@@ -11,14 +11,17 @@ use lib.ListN.{length, take, drop, drop-of-length-le}
 use borrow.Author.Tests.{lt-ltb, le-ltb}
 use Rattle.script.specs.declared.fields.Count.{Count}
 use Rattle.script.specs.declared.fields.Count.the-variants as count
-use Rattle.script.specs.Fields.{ending, Ends, Decoded}
+use Rattle.laws.specs.Ascii.{ascii}
+use Rattle.settings_store.specs.declared.Layouts.the-variants as layouts
+use Rattle.script.specs.Fields.{eql, ending, Ends, Decoded}
 use Rattle.script.specs.FieldLaws.{rest-of}
 use Rattle.packets.specs.declared.DataPacket.{DataPacket}
 use Rattle.packets.specs.declared.DiscoveryPacket.{DiscoveryPacket}
 use Rattle.script.specs.declared.parse.Word.{Word}
+use Rattle.script.specs.declared.parse.Known.the-variants as known
 use Rattle.script.specs.declared.parse.Command.{Command}
 use Rattle.script.specs.declared.parse.Command.the-variants as says
-use Rattle.script.specs.Script.{firstOf, restOf, loneOf, wordOf, fieldsOf, lineOf, Reading, plain, Reads}
+use Rattle.script.specs.Script.{firstOf, restOf, layoutsOf, loneOf, wordOf, fieldsOf, lineOf, Reading, plain, Reads}
 
 pub first-part : (s : List ℕ) (e : ℕ) → Ends 32 s e → take e s ≡ firstOf s
 first-part s e h = ap (λ (i : ℕ). take i s) (h .ends-at)
@@ -38,6 +41,16 @@ field f p q e g = ap f (ap firstOf (sym q) ∙ sym p) ∙ sym e ∙ g
 -- a whole part
 pub whole : {A : Type 0} {r x : A} {t u : List ℕ} (f : List ℕ → A) → t ≡ u → r ≡ f t → r ≡ x → f u ≡ x
 whole f q e g = ap f (sym q) ∙ sym e ∙ g
+
+-- ── the layouts that a reader is to know ──
+-- a second field: whether it is 1
+pub layouts-second : (s : List ℕ) (e : ℕ) {t : List ℕ} {b x : Bool} → Ends 32 s e → e < length s → t ≡ restOf s → b ≡ eql t (ascii "1") → b ≡ x → cond x (known.Of layouts.First) known.Bad ≡ layoutsOf s
+layouts-second s e {t} h l q p g =
+    let k = h .ends-at in
+    rw (lt-ltb (ending 32 s) (length s) (omega arith), ← q, ← p, g)
+
+pub layouts-both : (s : List ℕ) (e : ℕ) → Ends 32 s e → length s ≤ e → known.Of layouts.Both ≡ layoutsOf s
+layouts-both s e h l = let k = h .ends-at in rw (le-ltb (ending 32 s) (length s) (omega arith))
 
 -- ── what was decoded ──
 pub record Found (o : Option (List ℕ)) (n : ℕ) (out : List ℕ) : Type 0 where

@@ -3,7 +3,7 @@ ghost use mathlib.Core.Path.{_≡_};
 ghost use mathlib.Core.List.{List};
 ghost use Prim.Native.Nat.{ℕ};
 ghost use lib.ListN.{length};
-ghost use Rattle.script.specs.Script.{firstOf, restOf, pastFive, loneOf, settingWord, callWord, wordOf, settingOf, universeOf, readingOf, mergeOf, limitOf, expiryOf, stampOf, numbersOf, dataPacket, dataOf, syncOf, discoveryOf, listenOf, fieldsOf, lineOf, Reads};
+ghost use Rattle.script.specs.Script.{firstOf, restOf, pastFive, loneOf, recordWord, settingWord, callWord, wordOf, settingOf, universeOf, readingOf, mergeOf, limitOf, expiryOf, rawLimitOf, rawExpiryOf, storeOf, layoutsOf, loadOf, recordOf, stampOf, numbersOf, dataPacket, dataOf, syncOf, discoveryOf, listenOf, fieldsOf, lineOf, Reads};
 use crate::fields::Count;
 use crate::fields::Flag;
 use crate::fields::Number;
@@ -27,6 +27,7 @@ use rules::Cid;
 use rules::DataSequence;
 use rules::SyncSequence;
 use settings::MergeChoice;
+use settings_store::Layouts;
 
 // A data packet, its reading and how many values stand in the lent bytes.
 pub struct DataLine {
@@ -58,6 +59,18 @@ pub enum Setting {
     NoLimit,
     Limit(u16),
     Expiry(u32),
+    // Past the setter.
+    RawLimit(u16),
+    RawExpiry(u32),
+}
+
+// What is done with the settings as a whole.
+pub enum SettingsLine {
+    // The writer is lent so many bytes.
+    Store(u8),
+    // How many bytes stand in the lent memory, and the layouts that the reader knows.
+    Load(usize, Layouts),
+    Show,
 }
 
 // What a reset forgets: the sources altogether, or one half.
@@ -71,6 +84,7 @@ pub enum Command {
     Error,
     Fresh,
     Set(Setting),
+    Settings(SettingsLine),
     // How many universes stand in the lent list.
     Listen(usize),
     Mute(u16),
@@ -94,6 +108,14 @@ pub enum SettingWord {
     Timeout,
 }
 
+// Words of the settings record, and of values that its writer refuses.
+pub enum RecordWord {
+    RawLimit,
+    RawExpiry,
+    Store,
+    Load,
+}
+
 pub enum UniverseWord {
     Mute,
     Listening,
@@ -115,6 +137,7 @@ pub enum Word {
     Limit,
     Expiry,
     Setting(SettingWord),
+    Record(RecordWord),
     Universe(UniverseWord),
     Reading(ReadingWord),
 }
@@ -141,6 +164,24 @@ fn rest(text: &[u8]) -> &[u8]
     &text[e..]
 }
 
+fn record_word(word: &[u8]) -> Word
+    ensures { λ r. ⌜ r ≡ recordWord (now (word .entry)) ⌝ }
+{
+    if is_same(word, b"raw_limit") {
+        return Word::Record(RecordWord::RawLimit);
+    }
+    if is_same(word, b"raw_expiry") {
+        return Word::Record(RecordWord::RawExpiry);
+    }
+    if is_same(word, b"store_settings") {
+        return Word::Record(RecordWord::Store);
+    }
+    if is_same(word, b"load_settings") {
+        return Word::Record(RecordWord::Load);
+    }
+    Word::Unknown
+}
+
 fn setting_word(word: &[u8]) -> Word
     ensures { λ r. ⌜ r ≡ settingWord (now (word .entry)) ⌝ }
 {
@@ -165,7 +206,7 @@ fn setting_word(word: &[u8]) -> Word
     if is_same(word, b"expiry") {
         return Word::Expiry;
     }
-    Word::Unknown
+    record_word(word)
 }
 
 fn call_word(word: &[u8]) -> Word
@@ -240,6 +281,78 @@ fn parse_expiry(field: &[u8]) -> Command
         return Command::Error;
     };
     Command::Set(Setting::Expiry(n as u32))
+}
+
+fn parse_raw_limit(field: &[u8]) -> Command
+    ensures { λ r. ⌜ r ≡ rawLimitOf (now (field .entry)) ⌝ }
+{
+    let Small::Of(n) = parse_small(field) else {
+        return Command::Error;
+    };
+    Command::Set(Setting::RawLimit(n))
+}
+
+fn parse_raw_expiry(field: &[u8]) -> Command
+    ensures { λ r. ⌜ r ≡ rawExpiryOf (now (field .entry)) ⌝ }
+{
+    let Number::Of(n) = parse_number(field, 0xFFFF_FFFF) else {
+        return Command::Error;
+    };
+    Command::Set(Setting::RawExpiry(n as u32))
+}
+
+fn parse_store(field: &[u8]) -> Command
+    ensures { λ r. ⌜ r ≡ storeOf (now (field .entry)) ⌝ }
+{
+    let Number::Of(n) = parse_number(field, 64) else {
+        return Command::Error;
+    };
+    Command::Settings(SettingsLine::Store(n as u8))
+}
+
+// The layouts that a reader is to know.
+pub enum Known {
+    Of(Layouts),
+    Bad,
+}
+
+// Both, or the first alone where a second field says 1.
+fn parse_layouts(fields: &[u8]) -> Known
+    ensures { λ r. ⌜ r ≡ layoutsOf (now (fields .entry)) ⌝ }
+{
+    let e = field_end(fields, 32);
+    if e < fields.len() {
+        if is_same(rest(fields), b"1") {
+            return Known::Of(Layouts::First);
+        }
+        return Known::Bad;
+    }
+    Known::Of(Layouts::Both)
+}
+
+fn parse_load(fields: &[u8], bytes: &mut [u8]) -> Command
+    ensures { λ r. ⌜ ((us : List ℕ) → Reads (loadOf (length (now («bytes» .entry))) (now (fields .entry))) r (now («bytes» .exit))
+        us) ⌝ }
+{
+    let Known::Of(layouts) = parse_layouts(fields) else {
+        return Command::Error;
+    };
+    let Count::Of(n) = parse_byte_string(first(fields), bytes) else {
+        return Command::Error;
+    };
+    Command::Settings(SettingsLine::Load(n, layouts))
+}
+
+fn parse_record(word: RecordWord, fields: &[u8], bytes: &mut [u8]) -> Command
+    ensures { λ r. ⌜ ((us : List ℕ) → Reads (recordOf (length (now («bytes» .entry))) word (now (fields .entry))) r
+        (now («bytes» .exit)) us) ⌝ }
+{
+    match word {
+        RecordWord::RawLimit => parse_raw_limit(fields),
+        RecordWord::RawExpiry => parse_raw_expiry(fields),
+        RecordWord::Store => parse_store(fields),
+        RecordWord::Load => parse_load(fields, bytes),
+    }
 }
 
 // What a packet's fields have in front: the reading and the CID.
@@ -498,6 +611,9 @@ fn parse_lone(word: &[u8]) -> Command
     if is_same(word, b"dump") {
         return Command::Dump;
     }
+    if is_same(word, b"settings") {
+        return Command::Settings(SettingsLine::Show);
+    }
     Command::Error
 }
 
@@ -516,6 +632,7 @@ fn parse_fields(word: Word, fields: &[u8], bytes: &mut [u8], list: &mut [u16]) -
         Word::Limit => parse_limit(fields),
         Word::Expiry => parse_expiry(fields),
         Word::Setting(w) => parse_setting(w, fields),
+        Word::Record(w) => parse_record(w, fields, bytes),
         Word::Universe(w) => parse_universe(w, fields),
         Word::Reading(w) => parse_reading(w, fields),
     }

@@ -73,8 +73,8 @@ put-number-requires-2 c κs = search needs
 enum-told-3 : tie.Need-enum-told-3
 enum-told-3 c = search needs
 
-put-discovered-requires : tie.Need-put-discovered-requires
-put-discovered-requires c κs = search needs
+put-named-requires : tie.Need-put-named-requires
+put-named-requires c κs = search needs
 
 enum-told-4 : tie.Need-enum-told-4
 enum-told-4 c = search needs
@@ -211,7 +211,7 @@ returns-10 c =
     let c1 = c .before .before in
     let c2 = c1 .before .before in
     let c3 = c2 .before .before .before .before .before in
-    tells-as (ap (λ (a : StepAnswer). stepLine (c3 .args .own .now) (c3 .args .released .now) a) (sym (c2 .enum-told3 .given .1))) (c1 .put-discovered .ensures)
+    tells-as (ap (λ (a : StepAnswer). stepLine (c3 .args .own .now) (c3 .args .released .now) a) (sym (c2 .enum-told3 .given .1))) (c1 .put-named .ensures)
 
 same-length-11 : tie.Need-same-length-11
 same-length-11 c = search needs
@@ -298,7 +298,7 @@ put-step-spec =
     enum-told-2
     put-number-requires-2
     enum-told-3
-    put-discovered-requires
+    put-named-requires
     enum-told-4
     put-number-requires-3
     enum-told-5

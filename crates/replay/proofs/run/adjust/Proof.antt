@@ -83,6 +83,24 @@ set-discovery-expiry-requires c κs = search needs
 set-answered-requires-2 : tie.Need-set-answered-requires-2
 set-answered-requires-2 c κs = search needs
 
+enum-known-setting-8 : tie.Need-enum-known-setting-8
+enum-known-setting-8 c = search needs
+
+with-raw-limit-requires : tie.Need-with-raw-limit-requires
+with-raw-limit-requires c κs = search needs
+
+set-requires-7 : tie.Need-set-requires-7
+set-requires-7 c κs = search needs
+
+enum-known-setting-9 : tie.Need-enum-known-setting-9
+enum-known-setting-9 c = search needs
+
+with-raw-expiry-requires : tie.Need-with-raw-expiry-requires
+with-raw-expiry-requires c κs = search needs
+
+set-requires-8 : tie.Need-set-requires-8
+set-requires-8 c κs = search needs
+
 same-length : tie.Need-same-length
 same-length c = search needs
 
@@ -171,6 +189,28 @@ returns-8 c = λ m.
     let c4 = c3 .before .before .before .before in
     carries-as (ap (λ (x : Setting). adjusted x (c4 .args .session .settings) (stateOf (c4 .args .session .receiver) m)) (sym (c3 .setting7 .given .1))) (carries-as (ap (λ (a : Adjusted). answered a (stateOf (c4 .args .session .receiver) m)) (c2 .set-discovery-expiry .ensures .0)) (c1 .set-answered2 .ensures m))
 
+same-length-9 : tie.Need-same-length-9
+same-length-9 c = search needs
+
+returns-9 : tie.Need-returns-9
+returns-9 c = λ m.
+    let c1 = c .before .before in
+    let c2 = c1 .before .before in
+    let c3 = c2 .before .before in
+    let c4 = c3 .before .before .before .before in
+    carries-as (ap (λ (x : Setting). adjusted x (c4 .args .session .settings) (stateOf (c4 .args .session .receiver) m)) (sym (c3 .setting8 .given .1))) (carries-as (ap (λ (s : Settings). set-to s (stateOf (c4 .args .session .receiver) m)) (c2 .with-raw-limit .ensures)) (c1 .set7 .ensures m))
+
+same-length-10 : tie.Need-same-length-10
+same-length-10 c = search needs
+
+returns-10 : tie.Need-returns-10
+returns-10 c = λ m.
+    let c1 = c .before .before in
+    let c2 = c1 .before .before in
+    let c3 = c2 .before .before in
+    let c4 = c3 .before .before .before .before in
+    carries-as (ap (λ (x : Setting). adjusted x (c4 .args .session .settings) (stateOf (c4 .args .session .receiver) m)) (sym (c3 .setting9 .given .1))) (carries-as (ap (λ (s : Settings). set-to s (stateOf (c4 .args .session .receiver) m)) (c2 .with-raw-expiry .ensures)) (c1 .set8 .ensures m))
+
 pub adjust-spec : {M : Type 1} → statement M
 adjust-spec =
     tie.close
@@ -199,6 +239,12 @@ adjust-spec =
     enum-known-setting-7
     set-discovery-expiry-requires
     set-answered-requires-2
+    enum-known-setting-8
+    with-raw-limit-requires
+    set-requires-7
+    enum-known-setting-9
+    with-raw-expiry-requires
+    set-requires-8
     same-length
     returns
     same-length-2
@@ -214,4 +260,8 @@ adjust-spec =
     same-length-7
     returns-7
     same-length-8
-    returns-8)
+    returns-8
+    same-length-9
+    returns-9
+    same-length-10
+    returns-10)

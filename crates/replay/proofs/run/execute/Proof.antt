@@ -91,14 +91,20 @@ enum-known-command-10 c = search needs
 adjust-requires : tie.Need-adjust-requires
 adjust-requires c κs = search needs
 
+enum-known-command-11 : tie.Need-enum-known-command-11
+enum-known-command-11 c = search needs
+
+carry-settings-requires : tie.Need-carry-settings-requires
+carry-settings-requires c κs = search needs
+
 enum-told-3 : tie.Need-enum-told-3
 enum-told-3 c = search needs
 
 clear-all-requires : tie.Need-clear-all-requires
 clear-all-requires c κs = search needs
 
-enum-known-command-11 : tie.Need-enum-known-command-11
-enum-known-command-11 c = search needs
+enum-known-command-12 : tie.Need-enum-known-command-12
+enum-known-command-12 c = search needs
 
 reset-requires : tie.Need-reset-requires
 reset-requires c κs = search needs
@@ -277,9 +283,9 @@ same-length-27 c = search needs
 returns-13 : tie.Need-returns-13
 returns-13 c =
     let c1 = c .before .before in
-    let c2 = c1 .before .before in
+    let c2 = c1 .before .before .before in
     let c3 = c2 .before .before .before .before .before .before .before .before in
-    carries-as (ap (outcomes c3) (sym (c2 .enum-told3 .given .1))) (c1 .clear-all .ensures (lent c3))
+    carries-as (ap (outcomes c3) (sym (c2 .command11 .given .1))) (c1 .carry-settings .ensures (lent c3))
 
 same-length-28 : tie.Need-same-length-28
 same-length-28 c = search needs
@@ -287,15 +293,25 @@ same-length-28 c = search needs
 returns-14 : tie.Need-returns-14
 returns-14 c =
     let c1 = c .before .before in
-    let c2 = c1 .before .before .before in
+    let c2 = c1 .before .before in
     let c3 = c2 .before .before .before .before .before .before .before .before in
-    carries-as (ap (outcomes c3) (sym (c2 .command11 .given .1))) (c1 .reset .ensures (lent c3))
+    carries-as (ap (outcomes c3) (sym (c2 .enum-told3 .given .1))) (c1 .clear-all .ensures (lent c3))
 
 same-length-29 : tie.Need-same-length-29
 same-length-29 c = search needs
 
 returns-15 : tie.Need-returns-15
 returns-15 c =
+    let c1 = c .before .before in
+    let c2 = c1 .before .before .before in
+    let c3 = c2 .before .before .before .before .before .before .before .before in
+    carries-as (ap (outcomes c3) (sym (c2 .command12 .given .1))) (c1 .reset .ensures (lent c3))
+
+same-length-30 : tie.Need-same-length-30
+same-length-30 c = search needs
+
+returns-16 : tie.Need-returns-16
+returns-16 c =
     let c1 = c .before .before in
     let c2 = c1 .before .before in
     let c3 = c2 .before .before .before .before .before .before .before .before in
@@ -329,9 +345,11 @@ execute-spec =
     begin-requires
     enum-known-command-10
     adjust-requires
+    enum-known-command-11
+    carry-settings-requires
     enum-told-3
     clear-all-requires
-    enum-known-command-11
+    enum-known-command-12
     reset-requires
     enum-told-4
     refuse-requires
@@ -378,4 +396,6 @@ execute-spec =
     same-length-28
     returns-14
     same-length-29
-    returns-15)
+    returns-15
+    same-length-30
+    returns-16)

@@ -67,11 +67,17 @@ parse-setting-requires c κs = search needs
 enum-known-word-2 : tie.Need-enum-known-word-2
 enum-known-word-2 c = search needs
 
-parse-universe-requires : tie.Need-parse-universe-requires
-parse-universe-requires c κs = search needs
+parse-record-requires : tie.Need-parse-record-requires
+parse-record-requires c κs = search needs
 
 enum-known-word-3 : tie.Need-enum-known-word-3
 enum-known-word-3 c = search needs
+
+parse-universe-requires : tie.Need-parse-universe-requires
+parse-universe-requires c κs = search needs
+
+enum-known-word-4 : tie.Need-enum-known-word-4
+enum-known-word-4 c = search needs
 
 parse-reading-requires : tie.Need-parse-reading-requires
 parse-reading-requires c κs = search needs
@@ -144,17 +150,27 @@ returns-9 c =
     let c2 = c1 .before .before .before .before .before in
     reads-as (ap (readings c2) (c1 .word .given .1)) (reads-plain (c .parse-setting .ensures))
 
+same-length-5 : tie.Need-same-length-5
+same-length-5 c = search needs
+
 returns-10 : tie.Need-returns-10
 returns-10 c =
     let c1 = c .before .before in
-    let c2 = c1 .before .before .before .before .before in
-    reads-as (ap (readings c2) (c1 .word2 .given .1)) (reads-plain (c .parse-universe .ensures))
+    let c2 = c1 .before .before .before in
+    let c3 = c2 .before .before .before .before .before in
+    reads-as (ap (readings c3) (c2 .word2 .given .1)) (c1 .parse-record .ensures (c3 .args .list .now))
 
 returns-11 : tie.Need-returns-11
 returns-11 c =
     let c1 = c .before .before in
     let c2 = c1 .before .before .before .before .before in
-    reads-as (ap (readings c2) (c1 .word3 .given .1)) (reads-plain (c .parse-reading .ensures))
+    reads-as (ap (readings c2) (c1 .word3 .given .1)) (reads-plain (c .parse-universe .ensures))
+
+returns-12 : tie.Need-returns-12
+returns-12 c =
+    let c1 = c .before .before in
+    let c2 = c1 .before .before .before .before .before in
+    reads-as (ap (readings c2) (c1 .word4 .given .1)) (reads-plain (c .parse-reading .ensures))
 
 pub parse-fields-spec : {M : Type 1} → statement M
 parse-fields-spec =
@@ -178,8 +194,10 @@ parse-fields-spec =
     enum-known-word
     parse-setting-requires
     enum-known-word-2
-    parse-universe-requires
+    parse-record-requires
     enum-known-word-3
+    parse-universe-requires
+    enum-known-word-4
     parse-reading-requires
     returns
     same-length
@@ -194,5 +212,7 @@ parse-fields-spec =
     returns-7
     returns-8
     returns-9
+    same-length-5
     returns-10
-    returns-11)
+    returns-11
+    returns-12)

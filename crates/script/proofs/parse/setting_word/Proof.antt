@@ -132,23 +132,27 @@ returns-7 c =
     let c13 = c12 .before in
     rw (sym (c13 .is-same .ensures) ∙ c12 .if1 .left, sym (c11 .is-same2 .ensures) ∙ c10 .if2 .left, sym (c9 .is-same3 .ensures) ∙ c8 .if3 .left, sym (c7 .is-same4 .ensures) ∙ c6 .if4 .left, sym (c5 .is-same5 .ensures) ∙ c4 .if5 .left, sym (c3 .is-same6 .ensures) ∙ c2 .if6 .left, sym (c1 .is-same7 .ensures) ∙ c .if7 .taken)
 
+record-word-requires : tie.Need-record-word-requires
+record-word-requires c κs = search needs
+
 returns-8 : tie.Need-returns-8
 unfolding settingWord
 returns-8 c =
     let c1 = c .before in
-    let c2 = c1 .before .before in
-    let c3 = c2 .before in
-    let c4 = c3 .before .before in
-    let c5 = c4 .before in
-    let c6 = c5 .before .before in
-    let c7 = c6 .before in
-    let c8 = c7 .before .before in
-    let c9 = c8 .before in
-    let c10 = c9 .before .before in
-    let c11 = c10 .before in
-    let c12 = c11 .before .before in
-    let c13 = c12 .before in
-    rw (sym (c13 .is-same .ensures) ∙ c12 .if1 .left, sym (c11 .is-same2 .ensures) ∙ c10 .if2 .left, sym (c9 .is-same3 .ensures) ∙ c8 .if3 .left, sym (c7 .is-same4 .ensures) ∙ c6 .if4 .left, sym (c5 .is-same5 .ensures) ∙ c4 .if5 .left, sym (c3 .is-same6 .ensures) ∙ c2 .if6 .left, sym (c1 .is-same7 .ensures) ∙ c .if7 .left)
+    let c2 = c1 .before in
+    let c3 = c2 .before .before in
+    let c4 = c3 .before in
+    let c5 = c4 .before .before in
+    let c6 = c5 .before in
+    let c7 = c6 .before .before in
+    let c8 = c7 .before in
+    let c9 = c8 .before .before in
+    let c10 = c9 .before in
+    let c11 = c10 .before .before in
+    let c12 = c11 .before in
+    let c13 = c12 .before .before in
+    let c14 = c13 .before in
+    rw (sym (c14 .is-same .ensures) ∙ c13 .if1 .left, sym (c12 .is-same2 .ensures) ∙ c11 .if2 .left, sym (c10 .is-same3 .ensures) ∙ c9 .if3 .left, sym (c8 .is-same4 .ensures) ∙ c7 .if4 .left, sym (c6 .is-same5 .ensures) ∙ c5 .if5 .left, sym (c4 .is-same6 .ensures) ∙ c3 .if6 .left, sym (c2 .is-same7 .ensures) ∙ c1 .if7 .left) (c .record-word .ensures)
 
 pub setting-word-spec : {M : Type 1} → statement M
 setting-word-spec =
@@ -175,4 +179,5 @@ setting-word-spec =
     slice-aggregate-is-same-7
     is-same-requires-7
     returns-7
+    record-word-requires
     returns-8)
