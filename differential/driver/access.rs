@@ -4,19 +4,22 @@
 
 use super::*;
 use crate::clock;
+use crate::record::{self, FRESH_EXPIRY, Settings};
 use crate::script::{Command, Data, Discovery, Sync};
 use std::io::{self, Write};
 
-/// What a command answers: nothing further, a yes or no, released data, or a refused discovery expiry.
+/// What a command answers: nothing further, a yes or no, released data, a record, settings, or a stop that the crate has not, as
+/// it is printed.
 enum Done {
     Nothing,
     Held(bool),
     Released(Vec<DMXData>),
-    Refused,
+    Stored(Vec<u8>),
+    Shown(Settings),
+    Refused(&'static str),
 }
 
-/// The discovery expiry of fresh settings (document 02, F-3), and the one that the crate sweeps by.
-const FRESH_EXPIRY: u32 = 20_000;
+/// The discovery expiry that the crate sweeps by.
 const CRATE_EXPIRY: u32 = 2_500;
 
 /// A receiver, made by the crate's own constructor, and beside it the discovery expiry, which the crate has not.
@@ -89,21 +92,39 @@ impl Replay {
                 r.set_announce_timeout(on);
                 Ok(Done::Nothing)
             }
-            Command::MergeHighest(on) => r
-                .set_merge_fn(if on {
-                    htp_dmx_merge
-                } else {
-                    DEFAULT_MERGE_FUNC
-                })
-                .map(|()| Done::Nothing),
+            Command::MergeHighest(on) => r.set_merge_fn(merge_of(on)).map(|()| Done::Nothing),
             // The crate takes its limit when a receiver is made: make one, and hand its limit over.
             Command::Limit(limit) => receiver(limit.map(usize::from)).map(|made| {
                 r.source_limit = made.source_limit;
                 Done::Nothing
             }),
             // Document 02, F-3: the crate has no such setting.
-            Command::Expiry(expiry) if !(2_500..=60_000).contains(&expiry) => Ok(Done::Refused),
+            Command::Expiry(expiry) if !(2_500..=60_000).contains(&expiry) => {
+                Ok(Done::Refused("20"))
+            }
             Command::Expiry(expiry) => {
+                self.expiry = expiry;
+                Ok(Done::Nothing)
+            }
+            // Document 02, F-6: the crate has no records; they hold what its receiver holds.
+            Command::StoreSettings(length) => {
+                let mut lent = vec![0xcc; length];
+                let stored = record::store(&self.settings(), &mut lent);
+                Ok(stored.map_or_else(Done::Refused, |()| Done::Stored(lent)))
+            }
+            Command::LoadSettings { record, only_1 } => match record::load(&record, only_1) {
+                Err(stop) => Ok(Done::Refused(stop)),
+                Ok(settings) => {
+                    self.put(settings);
+                    Ok(Done::Nothing)
+                }
+            },
+            Command::Settings => Ok(Done::Shown(self.settings())),
+            Command::RawLimit(limit) => {
+                r.source_limit = Some(usize::from(limit));
+                Ok(Done::Nothing)
+            }
+            Command::RawExpiry(expiry) => {
                 self.expiry = expiry;
                 Ok(Done::Nothing)
             }
@@ -143,6 +164,31 @@ impl Replay {
             },
             Command::Dump => Ok(Done::Nothing),
         })
+    }
+
+    // The settings that the crate's receiver holds, and the discovery expiry.
+    fn settings(&self) -> Settings {
+        let r = &self.receiver;
+        Settings {
+            preview: r.process_preview_data,
+            announce_discovery: r.announce_source_discovery,
+            announce_termination: r.announce_stream_termination,
+            announce_timeout: r.announce_timeout,
+            highest: is_highest(r.merge_func),
+            limit: r.source_limit.map(|l| l.try_into().expect("16 bits")),
+            expiry: self.expiry,
+        }
+    }
+
+    fn put(&mut self, settings: Settings) {
+        let r = &mut self.receiver;
+        r.process_preview_data = settings.preview;
+        r.announce_source_discovery = settings.announce_discovery;
+        r.announce_stream_termination = settings.announce_termination;
+        r.announce_timeout = settings.announce_timeout;
+        r.merge_func = merge_of(settings.highest);
+        r.source_limit = settings.limit.map(usize::from);
+        self.expiry = settings.expiry;
     }
 
     /// Why the crate cannot carry out the command, if so.
@@ -214,6 +260,22 @@ impl Replay {
         dump_sources("q", &r.discovered_sources, out)?;
         writeln!(out, ".")
     }
+}
+
+type Merge = fn(&DMXData, &DMXData) -> Result<DMXData>;
+
+fn merge_of(highest: bool) -> Merge {
+    if highest {
+        htp_dmx_merge
+    } else {
+        DEFAULT_MERGE_FUNC
+    }
+}
+
+fn is_highest(merge: Merge) -> bool {
+    let highest = std::ptr::fn_addr_eq(merge, merge_of(true));
+    assert!(highest != std::ptr::fn_addr_eq(merge, merge_of(false)));
+    highest
 }
 
 fn too_long(command: &Command) -> Option<usize> {
@@ -288,7 +350,12 @@ fn print_answer(answer: Result<Done>, out: &mut impl Write) -> io::Result<()> {
     match answer {
         Ok(Done::Nothing) => write!(out, "0")?,
         Ok(Done::Held(held)) => write!(out, "0 {}", u8::from(held))?,
-        Ok(Done::Refused) => write!(out, "20")?,
+        Ok(Done::Refused(stop)) => write!(out, "{stop}")?,
+        Ok(Done::Stored(bytes)) => {
+            write!(out, "0 ")?;
+            byte_string(&bytes, out)?;
+        }
+        Ok(Done::Shown(settings)) => show(&settings, out)?,
         Ok(Done::Released(data)) => {
             let mut bytes = Vec::new();
             data.iter().for_each(|d| record(d, &mut bytes));
@@ -314,6 +381,22 @@ fn print_answer(answer: Result<Done>, out: &mut impl Write) -> io::Result<()> {
         Err(other) => panic!("no number for {other:?}"),
     }
     writeln!(out)
+}
+
+fn show(s: &Settings, out: &mut impl Write) -> io::Result<()> {
+    let flags = [
+        s.preview,
+        s.announce_discovery,
+        s.announce_termination,
+        s.announce_timeout,
+    ];
+    write!(out, "0")?;
+    for flag in flags {
+        write!(out, " {}", u8::from(flag))?;
+    }
+    let merge = if s.highest { "highest" } else { "priority" };
+    let limit = s.limit.map_or("none".into(), |l| l.to_string());
+    write!(out, " {merge} {limit} {}", s.expiry)
 }
 
 fn pair(number: u8, cid: Uuid, universe: u16, out: &mut impl Write) -> io::Result<()> {

@@ -8,6 +8,7 @@ mod clock;
 mod error;
 mod packet;
 mod receive;
+mod record;
 mod sacn_parse_pack_error;
 mod script;
 

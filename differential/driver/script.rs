@@ -36,6 +36,11 @@ pub enum Command {
     MergeHighest(bool),
     Limit(Option<u16>),
     Expiry(u32),
+    StoreSettings(usize),
+    LoadSettings { record: Vec<u8>, only_1: bool },
+    Settings,
+    RawLimit(u16),
+    RawExpiry(u32),
     Listen(Vec<u16>),
     Mute(u16),
     Listening(u16),
@@ -54,6 +59,8 @@ pub enum Command {
 
 /// A line of more bytes than this is an `error`.
 pub const LONGEST_LINE: usize = 8192;
+/// The most bytes that `store_settings` lends.
+const MOST_LENT: usize = 64;
 
 pub fn parse(line: &str) -> Option<Command> {
     if LONGEST_LINE < line.len() {
@@ -71,6 +78,18 @@ pub fn parse(line: &str) -> Option<Command> {
         ["limit", "none"] => Command::Limit(None),
         ["limit", n] => Command::Limit(Some(number(n)?)),
         ["expiry", n] => Command::Expiry(number(n)?),
+        ["store_settings", n] => Command::StoreSettings(number(n).filter(|n| *n <= MOST_LENT)?),
+        ["load_settings", record] => Command::LoadSettings {
+            record: bytes(record)?,
+            only_1: false,
+        },
+        ["load_settings", record, "1"] => Command::LoadSettings {
+            record: bytes(record)?,
+            only_1: true,
+        },
+        ["settings"] => Command::Settings,
+        ["raw_limit", n] => Command::RawLimit(number(n)?),
+        ["raw_expiry", n] => Command::RawExpiry(number(n)?),
         ["listen", universes] => Command::Listen(list(universes)?),
         ["mute", u] => Command::Mute(number(u)?),
         ["listening", u] => Command::Listening(number(u)?),

@@ -43,11 +43,12 @@ const RESET: (&str, &str) = (
 );
 
 const PUBLISHED: [&str; 3] = ["receive.rs", "packet.rs", "error.rs"];
-const DRIVER: [(&str, &str); 5] = [
+const DRIVER: [(&str, &str); 6] = [
     ("main.rs", "main.rs"),
     ("access.rs", "receive/access.rs"),
     ("clock.rs", "clock.rs"),
     ("script.rs", "script.rs"),
+    ("record.rs", "record.rs"),
     ("sacn_parse_pack_error.rs", "sacn_parse_pack_error.rs"),
 ];
 /// The benchmark of both sides: the package, and its own files with their places in it.

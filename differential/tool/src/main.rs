@@ -3,6 +3,7 @@
 mod compare;
 mod copy;
 mod mutants;
+mod records;
 mod rng;
 mod sample;
 mod scripts;

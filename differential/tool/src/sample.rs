@@ -1,7 +1,7 @@
 //! A recorded sample: short scripts that together see every number that the crate's driver gives, every kind of dump line, every
 //! reset over every table with something in it, a synchronisation pair that outlives a termination, a source that stood
-//! before two others and is listed again, discovery sweeps behind refused expiries, and polls while the discovery expiry is not
-//! the crate's.
+//! before two others and is listed again, discovery sweeps behind refused expiries, polls while the discovery expiry is not the
+//! crate's, stored settings that are loaded again, records of both layouts, and each fault of a record.
 
 use crate::compare::{Answers, Side, concatenated, is_silent, number};
 use crate::scripts::{self, KINDS};
@@ -11,7 +11,7 @@ use std::collections::BTreeSet;
 const MOST_BYTES: usize = 1_000_000;
 
 /// What every sample must have seen.
-const NUMBERS: [usize; 12] = [0, 2, 3, 4, 5, 6, 7, 8, 9, 14, 20, 21];
+const NUMBERS: [usize; 15] = [0, 2, 3, 4, 5, 6, 7, 8, 9, 14, 15, 20, 21, 22, 23];
 const MARKS: [&str; 11] = ["d", "dc", "y", "yc", "w", "l", "p", "pp", "q", "qp", "."];
 const RESETS: [&str; 3] = ["reset", "reset_pairs", "reset_discovery"];
 const TABLES: [&str; 5] = ["d", "y", "w", "p", "q"];
@@ -21,6 +21,31 @@ const LONG: &str = "a discovery sweep behind a refused long expiry";
 const OTHER: &str = "a poll while the expiry is not the crate's";
 const OUTLIVES: &str =
     "a synchronisation pair outlives a termination of an unknown data pair, up to a dump";
+const LONGER: &str = "a record is stored in more than 14 bytes";
+const LOADED_AGAIN: &str = "what was stored is loaded again";
+const LOADS: [&str; 21] = [
+    "load: layout 1 gives 0",
+    "load: layout 2 gives 0",
+    "load: under three bytes gives 22",
+    "load: mark, layout 1 gives 22",
+    "load: mark, layout 2 gives 22",
+    "load: mark, layout 0 gives 22",
+    "load: layout 0 gives 23",
+    "load: layout 3 gives 23",
+    "load: layout 1, short gives 22",
+    "load: layout 2, short gives 22",
+    "load: layout 2, short, byte 3 gives 22",
+    "load: layout 2, byte 3 gives 23",
+    "load: layout 2, byte 4 gives 23",
+    "load: layout 2, byte 5 gives 23",
+    "load: layout 2, byte 6 gives 23",
+    "load: layout 2, byte 7 gives 23",
+    "load: layout 2, low expiry gives 23",
+    "load: layout 2, high expiry gives 23",
+    "load by layout 1 alone: layout 1 gives 0",
+    "load by layout 1 alone: layout 2 gives 23",
+    "load by layout 1 alone: layout 2, short gives 23",
+];
 
 struct Candidate {
     script: Vec<String>,
@@ -67,9 +92,10 @@ pub fn choose(count: usize, reference: &Side) -> Result<(String, String), String
     let swept = ["p", "q"].map(|t| change(LONG, true, t));
     let polled = ["d", "y", "w"].map(|t| change(OTHER, true, t));
     let up_to_dumps = [OUTLIVES, AGAIN].map(String::from);
+    let records = [LONGER, LOADED_AGAIN].iter().chain(&LOADS);
     let expiries = left.into_iter().chain(swept).chain(polled);
     let all = numbers.chain(marks).chain(resets).chain(up_to_dumps);
-    for wanted in all.chain(expiries) {
+    for wanted in all.chain(expiries).chain(records.map(|r| r.to_string())) {
         if !seen.contains(&wanted) {
             return Err(format!("the sample lacks {wanted}"));
         }
@@ -87,7 +113,7 @@ pub fn choose(count: usize, reference: &Side) -> Result<(String, String), String
     Ok((script, output))
 }
 
-// Scripts that stay inside the node's tables, with what they see.
+// Scripts that stay inside the node's tables and hold proper settings, with what they see.
 fn candidates(
     batch: Vec<Vec<String>>,
     reference: &Side,
@@ -109,6 +135,7 @@ fn candidates(
         let mut lasting = Vec::new();
         let mut again = Again::default();
         let mut expiry = Expiry::default();
+        let mut stored = Vec::new();
         for command in &script {
             bytes += command.len() + 1;
             if is_silent(command) {
@@ -122,12 +149,13 @@ fn candidates(
             else {
                 return Err("the watched run ended early".into());
             };
-            same &= x == y;
+            same &= x == y && !is_improper(command);
             bytes += x.len() + 1;
             note(command, x, &mut features);
             note_found(command, before, &mut lasting, &mut features);
             again.note(command, before, &mut features);
             expiry.note(command, x, before, &mut features);
+            note_record(command, x, &mut stored, &mut features);
         }
         if same {
             found.push(Candidate {
@@ -138,6 +166,15 @@ fn candidates(
         }
     }
     Ok(found)
+}
+
+// A limit of 0, or an expiry out of its range, past the setter.
+fn is_improper(command: &str) -> bool {
+    match command.split_once(' ') {
+        Some(("raw_limit", n)) => n.parse() == Ok(0),
+        Some(("raw_expiry", n)) => n.parse().is_ok_and(|n: u32| !(2500..=60_000).contains(&n)),
+        _ => false,
+    }
 }
 
 fn watched(script: &[String]) -> Vec<String> {
@@ -247,8 +284,13 @@ impl<'a> Expiry<'a> {
             }
         }
         match command.split_once(' ') {
-            Some(("expiry", n)) if answer == "0" => {
+            Some(("expiry" | "raw_expiry", n)) if answer == "0" => {
                 self.other = n != "2500";
+                self.refused = None;
+            }
+            Some(("load_settings", record)) if answer == "0" => {
+                self.other =
+                    !record.starts_with("535402") || record.get(20..28) != Some("000009c4");
                 self.refused = None;
             }
             Some(("expiry", n)) if answer == "20" => {
@@ -259,6 +301,67 @@ impl<'a> Expiry<'a> {
             _ => {}
         }
     }
+}
+
+// What a line of stored settings shows.
+fn note_record(
+    command: &str,
+    answer: &str,
+    stored: &mut Vec<String>,
+    features: &mut BTreeSet<String>,
+) {
+    let fields: Vec<&str> = command.split(' ').collect();
+    match (fields[0], number(answer)) {
+        ("store_settings", Some(0)) => {
+            let record = &answer[2..];
+            if 28 < record.len() {
+                features.insert(LONGER.into());
+            }
+            stored.push(record.into());
+        }
+        ("load_settings", Some(n)) => {
+            if n == 0 && stored.iter().any(|r| r == fields[1]) {
+                features.insert(LOADED_AGAIN.into());
+            }
+            let load = ["load", "load by layout 1 alone"][fields.len() - 2];
+            let record = record_facts(&bytes_of(fields[1])).join(", ");
+            features.insert(format!("{load}: {record} gives {n}"));
+        }
+        _ => {}
+    }
+}
+
+fn bytes_of(field: &str) -> Vec<u8> {
+    let places = (0..field.len() / 2).map(|i| 2 * i);
+    places
+        .filter_map(|i| u8::from_str_radix(&field[i..i + 2], 16).ok())
+        .collect()
+}
+
+// A record's layout and all its faults.
+fn record_facts(record: &[u8]) -> Vec<String> {
+    let &[first, second, layout, ref fields @ ..] = record else {
+        return vec!["under three bytes".into()];
+    };
+    let mut facts = Vec::new();
+    if [first, second] != [0x53, 0x54] {
+        facts.push("mark".into());
+    }
+    facts.push(format!("layout {}", layout.min(3)));
+    if layout == 1 && fields.len() < 7 || layout == 2 && fields.len() < 11 {
+        facts.push("short".into());
+    }
+    let over = fields.iter().take(5).enumerate().filter(|(_, b)| 1 < **b);
+    facts.extend(over.map(|(i, _)| format!("byte {}", i + 3)));
+    if let (2, Some(expiry)) = (layout, fields.get(7..11)) {
+        let expiry = u32::from_be_bytes(expiry.try_into().expect("four bytes"));
+        if expiry < 2500 {
+            facts.push("low expiry".into());
+        } else if 60_000 < expiry {
+            facts.push("high expiry".into());
+        }
+    }
+    facts
 }
 
 fn note(command: &str, answer: &str, features: &mut BTreeSet<String>) {
@@ -288,7 +391,9 @@ fn note(command: &str, answer: &str, features: &mut BTreeSet<String>) {
         ["7", _, _, difference] => features.insert(format!("{word} difference {difference}")),
         ["0", "release", records, _, _] => features.insert(format!("{word} releases {records}")),
         ["6", count] => features.insert(format!("{word} counts {count}")),
-        [_, value] => features.insert(format!("{word} {n} {}", value.len())),
+        [_, value] if word != "store_settings" => {
+            features.insert(format!("{word} {n} {}", value.len()))
+        }
         _ => false,
     };
 }

@@ -1,6 +1,7 @@
 //! Random replay scripts. A kind says which commands come how often and how their fields are chosen; the generator
 //! keeps rough records of what it has sent, so that sequence numbers and readings fall on the boundaries.
 
+use crate::records::{Record, Settings};
 use crate::rng::Rng;
 use std::collections::HashMap;
 use std::fmt::Write;
@@ -29,6 +30,9 @@ struct Choice {
     expiry: usize,
     malformed: usize,
     dump: usize,
+    // Lines of stored settings behind a command, in percent; the weight of those among them that are no commands.
+    records: usize,
+    no_record: usize,
     // Data packets.
     synchronised: usize,
     terminated: usize,
@@ -77,6 +81,8 @@ const MIXED: Choice = Choice {
     expiry: 1,
     malformed: 0,
     dump: 12,
+    records: 2,
+    no_record: 0,
     synchronised: 50,
     terminated: 7,
     preview: 12,
@@ -141,7 +147,7 @@ pub const KINDS: &[(&str, &str)] = &[
     ),
     (
         "settings",
-        "setters between all other commands, limit 0 and refused expiries among them",
+        "setters between all other commands, limit 0 and refused expiries among them; settings stored and loaded, records damaged",
     ),
     (
         "clock",
@@ -291,6 +297,7 @@ fn choice(kind: &str) -> Choice {
             setting: 25,
             limit: 8,
             expiry: 6,
+            records: 25,
             aim: 10,
             ..base
         },
@@ -305,6 +312,8 @@ fn choice(kind: &str) -> Choice {
         },
         "lines" => Choice {
             malformed: 25,
+            records: 14,
+            no_record: 14,
             ..base
         },
         _ => panic!("no kind {kind}"),
@@ -321,10 +330,24 @@ const CRATE_EXPIRY: u32 = 2500;
 const OTHER_EXPIRIES: [u32; 4] = [2501, 20_000, 59_999, 60_000];
 const REFUSED_EXPIRIES: [u32; 4] = [0, 2499, 60_001, u32::MAX];
 
+/// What is wrong with a record.
+#[derive(Clone, Copy, PartialEq)]
+enum Fault {
+    Cut,
+    Mark,
+    Layout,
+    Field,
+    Expiry,
+}
+
 struct Script {
     rng: Rng,
+    // For the lines of stored settings: the other lines of a script are what they would be without these.
+    own: Rng,
     choice: Choice,
     lines: Vec<String>,
+    // How many of them are of stored settings.
+    beside: usize,
     now: u64,
     readings: Vec<u64>,
     cids: Vec<Cid>,
@@ -335,8 +358,12 @@ struct Script {
     plans: HashMap<Cid, (u8, Vec<u8>)>,
     // Whether discovery pages come without gaps, repeats and other strays.
     tidy: bool,
-    // The discovery expiry as the script has set it.
-    expiry: u32,
+    // The settings as the script has set them.
+    settings: Settings,
+    // The record that was stored last.
+    stored: Option<Record>,
+    // Whether values that the setters refuse are put in past them.
+    raw: bool,
 }
 
 /// The script of a kind, seed and number. A short one has some 12 to 30 commands instead of 60 to 150.
@@ -345,14 +372,17 @@ pub fn script(kind: &str, seed: u64, number: u64, short: bool) -> Vec<String> {
     for b in kind.bytes() {
         mixed = Rng::new(mixed.next() ^ u64::from(b));
     }
-    let mut rng = Rng::new(Rng::new(mixed.next() ^ number).next());
+    let mut seeds = Rng::new(mixed.next() ^ number);
+    let mut rng = Rng::new(seeds.next());
+    let own = Rng::new(seeds.next());
     let full = kind == "full";
     let mut choice = choice(if full { "mixed" } else { kind });
     // Some scripts have none of what hinders a merge, some have much of it.
     choice.empty *= rng.pick(&[0, 1, 1, 5]);
     choice.unlike *= rng.pick(&[0, 1, 1, 5]);
     choice.priority = rng.pick(&[0, choice.priority, choice.priority, 60]);
-    let mut script = Script::new(rng, choice, kind == "clock");
+    let mut script = Script::new(rng, own, choice, kind == "clock");
+    script.show(15);
     script.set_expiry(CRATE_EXPIRY);
     if full {
         script.full(short);
@@ -389,7 +419,7 @@ fn list(numbers: &[u16]) -> String {
 }
 
 impl Script {
-    fn new(mut rng: Rng, choice: Choice, extreme: bool) -> Script {
+    fn new(mut rng: Rng, mut own: Rng, choice: Choice, extreme: bool) -> Script {
         let now = match rng.below(if extreme { 4 } else { 12 }) {
             0 => 0,
             1 => u64::MAX - rng.below(9000) as u64,
@@ -418,10 +448,13 @@ impl Script {
             vec![b'n'; rng.between(62, 63)],
         ];
         let tidy = rng.percent(40);
+        let raw = own.percent(60);
         Script {
             rng,
+            own,
             choice,
             lines: Vec::new(),
+            beside: 0,
             now,
             readings: vec![now],
             cids,
@@ -431,11 +464,14 @@ impl Script {
             names,
             plans: HashMap::new(),
             tidy,
-            expiry: 20_000,
+            settings: Settings::FRESH,
+            stored: None,
+            raw,
         }
     }
 
     fn say(&mut self, line: String) {
+        self.settings.note(&line);
         self.lines.push(line);
     }
 
@@ -446,9 +482,11 @@ impl Script {
         } else {
             self.rng.between(60, 150)
         };
-        while self.lines.len() < length {
+        while self.lines.len() < length + self.beside {
             self.command();
+            self.records();
         }
+        self.show(50);
         self.say("dump".into());
     }
 
@@ -565,7 +603,7 @@ impl Script {
 
     // A discovery sweep; if the discovery expiry is not the crate's, it is set to that first.
     fn sweep(&mut self, now: u64) {
-        if self.expiry != CRATE_EXPIRY {
+        if self.settings.expiry != CRATE_EXPIRY {
             self.set_expiry(CRATE_EXPIRY);
         }
         self.say(format!("sweep {now}"));
@@ -837,10 +875,283 @@ impl Script {
     }
 
     fn set_expiry(&mut self, expiry: u32) {
-        if (2500..=60_000).contains(&expiry) {
-            self.expiry = expiry;
-        }
         self.say(format!("expiry {expiry}"));
+    }
+
+    // Lines of stored settings, in so many cases of a hundred.
+    fn records(&mut self) {
+        let percent = self.choice.records;
+        self.beside(percent, Script::record);
+    }
+
+    fn show(&mut self, percent: usize) {
+        self.beside(percent, |script| script.say("settings".into()));
+    }
+
+    fn beside(&mut self, percent: usize, lines: fn(&mut Script)) {
+        let before = self.lines.len();
+        std::mem::swap(&mut self.rng, &mut self.own);
+        if self.rng.percent(percent) {
+            lines(self);
+        }
+        std::mem::swap(&mut self.rng, &mut self.own);
+        self.beside += self.lines.len() - before;
+    }
+
+    fn record(&mut self) {
+        let weights = [3, 4, 5, 8, 1, 4, self.choice.no_record];
+        match self.rng.weighted(&weights) {
+            0 => self.store(),
+            1 => self.there_and_back(),
+            2 => {
+                let record = self.any_record(&[1, 1, 2]);
+                let only_1 = self.rng.percent(if record.layout == 1 { 40 } else { 20 });
+                self.load(&record, only_1);
+            }
+            3 => {
+                for _ in 0..self.rng.between(2, 6) {
+                    self.load_damaged();
+                }
+            }
+            4 => self.load_every_length(),
+            5 => self.raw(),
+            _ => {
+                for _ in 0..self.rng.between(1, 3) {
+                    self.no_record();
+                }
+            }
+        }
+    }
+
+    fn store(&mut self) {
+        let length = match self.rng.below(10) {
+            0..3 => self.rng.pick(&[0, 1, 2, 3, 9, 10, 12, 13, 13, 13]),
+            3..6 => 14,
+            6 => self.rng.pick(&[15, 64]),
+            _ => self.rng.between(14, 64),
+        };
+        self.say(format!("store_settings {length}"));
+        if 14 <= length && self.settings.can_be_stored() {
+            self.stored = Some(Record {
+                layout: 2,
+                settings: self.settings,
+                rest: vec![0xcc; length - 14],
+            });
+        }
+    }
+
+    // Stored settings, now or earlier, are loaded again behind setters.
+    fn there_and_back(&mut self) {
+        if self.stored.is_none() || self.rng.percent(70) {
+            self.store();
+        }
+        for _ in 0..self.rng.between(0, 4) {
+            if self.rng.percent(20) {
+                self.expiry();
+            } else {
+                self.setting();
+            }
+        }
+        let Some(record) = self.stored.clone() else {
+            return;
+        };
+        if self.rng.percent(20) {
+            self.load(&record, true);
+        }
+        self.load(&record, false);
+    }
+
+    // A record with the fields that are set, some of them changed: few in most kinds, so that a script stays what its kind is.
+    fn any_record(&mut self, layouts: &[u8]) -> Record {
+        let mut settings = self.settings;
+        if !settings.can_be_stored() {
+            settings = Settings::FRESH;
+        }
+        let all = self.rng.percent(2 * self.choice.records);
+        let changed = if all { 7 } else { self.rng.between(1, 2) };
+        for i in 0..changed {
+            let field = if all { i } else { self.rng.below(7) };
+            match field {
+                0..5 => settings.on[field] = self.rng.percent(50),
+                5 => {
+                    let few = self.rng.between(1, self.cids.len()) as u16;
+                    let limits = [255, 256, 513, 65535, few, few].map(Some);
+                    settings.limit = self.rng.pick(&[&[None; 3], &limits[..]].concat());
+                }
+                _ => {
+                    let any = self.rng.between(2500, 60_000) as u32;
+                    settings.expiry = self.rng.pick(&[2500, 2501, 59_999, 60_000, any]);
+                }
+            }
+        }
+        let rest = match self.rng.below(120) {
+            0..60 => Vec::new(),
+            // Behind layout 1, what would be an expiry.
+            60..80 => {
+                let expiry: u32 = self.rng.pick(&[2500, 2499, 60_000]);
+                expiry.to_be_bytes().to_vec()
+            }
+            80..119 => {
+                let length = self.rng.pick(&[1, 1, 2, 4, 50]);
+                let byte = self.rng.pick(&[0, 1, 2, 0x53, 0xcc, 255]);
+                vec![byte; length]
+            }
+            // As long as a line can be.
+            _ => vec![0; 4074],
+        };
+        let layout = self.rng.pick(layouts);
+        Record {
+            layout,
+            settings,
+            rest,
+        }
+    }
+
+    fn load(&mut self, record: &Record, only_1: bool) {
+        self.say_load(&record.bytes(), only_1);
+        if record.layout == 1 || !only_1 {
+            self.settings = record.read();
+        }
+        if self.rng.percent(70) {
+            self.say("settings".into());
+        }
+    }
+
+    fn say_load(&mut self, bytes: &[u8], only_1: bool) {
+        let reader = if only_1 { " 1" } else { "" };
+        self.say(format!("load_settings {}{reader}", byte_string(bytes)));
+    }
+
+    // A record with one fault, or with two so that the order of the tests shows. Neither reader takes it.
+    fn load_damaged(&mut self) {
+        use Fault::*;
+        let first = self
+            .rng
+            .pick(&[Cut, Cut, Mark, Layout, Field, Field, Expiry]);
+        let second = self
+            .rng
+            .pick(&[first, first, first, Cut, Mark, Layout, Field, Expiry]);
+        let has = |fault| first == fault || second == fault;
+        let record = self.any_record(if has(Expiry) { &[2] } else { &[1, 2] });
+        let mut bytes = record.bytes();
+        if has(Mark) {
+            let i = self.rng.below(2);
+            bytes[i] ^= self.rng.pick(&[1, 7, 0x20, 0xff]);
+        }
+        if has(Layout) {
+            bytes[2] = self.rng.pick(&[0, 3, 3, 4, 128, 255]);
+        }
+        if has(Field) {
+            let i = self.rng.between(3, 7);
+            bytes[i] = self.rng.pick(&[2, 2, 3, 128, 255]);
+        }
+        if has(Expiry) {
+            // 68,036 is 2,500 in its last two bytes.
+            let expiries = [0, 2499, 2499, 60_001, 60_001, 68_036, 68_036, u32::MAX];
+            let expiry: u32 = self.rng.pick(&expiries);
+            bytes[10..14].copy_from_slice(&expiry.to_be_bytes());
+        }
+        if has(Cut) {
+            let needed = record.needed();
+            bytes.truncate(match self.rng.below(4) {
+                0 => self.rng.below(4),
+                1 => self.rng.below(needed),
+                _ => needed - 1,
+            });
+        }
+        let only_1 = self.rng.percent(20);
+        self.say_load(&bytes, only_1);
+        if self.rng.percent(20) {
+            self.say("settings".into());
+        }
+    }
+
+    // Every length of a record, from nothing to beyond its end.
+    fn load_every_length(&mut self) {
+        let mut record = self.any_record(&[1, 2]);
+        let bytes = record.bytes();
+        let only_1 = self.rng.percent(30);
+        for length in 0..record.needed() {
+            self.say_load(&bytes[..length], only_1);
+        }
+        for length in 0..3 {
+            record.rest = vec![255; length];
+            self.load(&record, only_1);
+        }
+    }
+
+    // Values that are put in past the setters. Behind a limit of 0 come only lines of stored settings, up to one that sets
+    // the limit: a binding in C cannot hold a limit of 0.
+    fn raw(&mut self) {
+        if self.raw && self.rng.percent(75) {
+            let expiry = self.rng.pick(&[0, 2499, 2499, 60_001, 60_001, u32::MAX]);
+            self.say(format!("raw_expiry {expiry}"));
+        } else if self.rng.percent(60) {
+            let expiry = self.rng.pick(&OTHER_EXPIRIES);
+            self.say(format!("raw_expiry {expiry}"));
+        }
+        let few = self.rng.between(1, self.cids.len()) as u16;
+        let zero = self.raw && self.rng.percent(40);
+        if zero {
+            self.say("raw_limit 0".into());
+        } else if self.rng.percent(40) {
+            let limit = self.rng.pick(&[few, 256, 65535]);
+            self.say(format!("raw_limit {limit}"));
+        }
+        for _ in 0..self.rng.between(2, 4) {
+            match self.rng.below(6) {
+                0 => self.say("settings".into()),
+                1 => self.load_damaged(),
+                _ => self.store(),
+            }
+        }
+        if zero {
+            match self.rng.below(4) {
+                0 => self.say("limit none".into()),
+                1 => self.say(format!("limit {few}")),
+                2 => self.say(format!("raw_limit {few}")),
+                _ => {
+                    let record = self.any_record(&[1, 2]);
+                    self.load(&record, false);
+                }
+            }
+        }
+    }
+
+    // Lines that are no commands of stored settings.
+    fn no_record(&mut self) {
+        let record = hex(&self.any_record(&[1, 2]).bytes());
+        let line = match self.rng.below(30) {
+            0 => "store_settings".into(),
+            1..4 => "store_settings 65".into(),
+            4 => "store_settings -1".into(),
+            5 => "store_settings 14 14".into(),
+            6 => "store_settings 14 ".into(),
+            7 => "store_settings 18446744073709551630".into(),
+            8 => "load_settings".into(),
+            9 => "load_settings ".into(),
+            10 => "load_settings 5".into(),
+            11 => "load_settings 5g".into(),
+            12 => format!("load_settings {record}0"),
+            13 => format!("load_settings {record}CC"),
+            14 => format!("load_settings {record} 0"),
+            15 => format!("load_settings {record} 2"),
+            16 => format!("load_settings {record} -"),
+            17 => format!("load_settings {record} 1 1"),
+            18 => format!("load_settings {record} "),
+            19 => format!("load_settings  {record}"),
+            20 => format!("load_setting {record}"),
+            21 => "settings 1".into(),
+            22 => "settings ".into(),
+            23 => "raw_limit".into(),
+            24 => "raw_limit none".into(),
+            25 => "raw_limit 65536".into(),
+            26 => "raw_limit 1 1".into(),
+            27 => "raw_expiry".into(),
+            28 => "raw_expiry 4294967296".into(),
+            _ => "raw_expiry 2500 1".into(),
+        };
+        self.say(line);
     }
 
     // Lines that are plainly no commands, and lines that print nothing.
