@@ -2,16 +2,16 @@
 -- Document 02, F-6: "The facts on fields are shown for a field list in general, then used for both layouts."
 -- Assumes nothing.
 use mathlib.Core.Path.{_≡_, refl, sym, ap, _∙_}
-use mathlib.Core.Bool.{Bool, true, false, cond}
+use mathlib.Core.Bool.{Bool, true, cond}
 use mathlib.Core.List.{List, [], _∷_, _++_, map, append-assoc}
 use Prim.Native.Nat.{ℕ, zero, suc, _+_, _^_, _≤_, _<_}
 use native.Mathlib.Omega.{arith}
 use native.Mathlib.Nat.{mod-eq-of-lt}
 use lib.Dec.{ltb}
-use lib.ListN.{length, take, drop, length-append, length-take, length-drop, take-append-drop}
-use lib.Seq.{take-at, drop-at, take-add, length-take-le, drop-drop}
+use lib.ListN.{length, take, drop, length-append, length-take, length-drop}
+use lib.Seq.{take-at, drop-at, take-add, take-append-le, length-take-le, drop-drop}
 use borrow.Author.Tests.{ltb-true, ltb-false, lt-ltb, le-ltb}
-use Rattle.laws.specs.Cases.{split, clash}
+use Rattle.laws.specs.Cases.{split}
 use Rattle.rules.specs.Bytes.{number, bigEndian, Bytes, length-bigEndian, number-bigEndian, bigEndian-number, number-below}
 
 pub record Field : Type 0 where
@@ -174,6 +174,10 @@ decode-reads (f ∷ fs) bs =
     (λ e.
     let a = ltb-false (length bs) w e in
     rw (take-add w (size fs) bs, decode-front f fs (take w bs) (take (size fs) (drop w bs)) (length-take-le w bs a), decode-taken f fs bs a, r))
+
+-- so that bytes which are enough decode alike, whatever follows them
+pub decode-behind : (fs : List Field) (bs rest : List ℕ) → size fs ≤ length bs → decode fs (bs ++ rest) ≡ decode fs bs
+decode-behind fs bs rest h = sym (decode-reads fs (bs ++ rest)) ∙ (rw (take-append-le (size fs) bs rest h) (decode-reads fs bs))
 
 -- what comes of the fields behind the first
 with-value-short : (v : ℕ) (d : Decoded) → with-value v d ≡ short → d ≡ short

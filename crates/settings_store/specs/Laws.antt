@@ -1,19 +1,18 @@
 -- Document 02, F-6: what is written reads back alike; what is read, written again, is what it was. By the facts on fields in general, for both layouts.
 -- Assumes nothing.
 use mathlib.Core.Path.{_≡_, refl, sym, ap, _∙_}
-use mathlib.Core.Bool.{Bool, true, false, cond, not, _&&_}
-use mathlib.Core.Option.{Option, none, some}
-use mathlib.Core.List.{List, [], _∷_, _++_, append-nil}
-use Prim.Native.Nat.{ℕ, zero, suc, _/_, _%_, _≤_, _<_}
+use mathlib.Core.Bool.{Bool, true, false, not}
+use mathlib.Core.Option.{none, some}
+use mathlib.Core.List.{List, [], _∷_, _++_}
+use Prim.Native.Nat.{ℕ, zero, suc, _≤_, _<_}
 use native.Mathlib.Omega.{arith}
-use native.Mathlib.Nat.{div-one, mod-eq-of-lt}
 use lib.Dec.{eqb, ltb, leb}
-use lib.ListN.{length, take, drop, getD, length-append, length-drop}
-use lib.Seq.{getD-drop}
-use borrow.Author.Tests.{eq-eqb, eqb-true, eqb-false, ne-eqb, ltb-true, ltb-false, lt-ltb, le-ltb, leb-true, leb-false}
+use lib.ListN.{length, take, drop, getD, length-append, take-append-drop}
+use lib.Seq.{take-at}
+use borrow.Author.Tests.{eqb-true, eqb-false, ne-eqb, ltb-false, le-ltb, leb-true}
 use Rattle.laws.specs.Cases.{split, clash, found}
-use Rattle.rules.specs.Bytes.{Bytes, number, bigEndian, bit}
-use Rattle.fields.specs.Fields.{Field, size, Fit, encode, Decoded, values, short, out-of-range, with-value, decode, joined, decode-front, decode-none, decode-append, length-encode, decode-encode, decode-fits, encode-decode, encode-append, fit-append, fit-length}
+use Rattle.rules.specs.Bytes.{Bytes, bit}
+use Rattle.fields.specs.Fields.{Field, size, Fit, encode, Decoded, values, short, out-of-range, decode, length-encode, decode-encode, decode-beginning, decode-behind, decode-fits, encode-decode, encode-append, fit-append, fit-length}
 use Rattle.settings.specs.declared.Settings.{Settings}
 use Rattle.settings.specs.declared.MergeChoice.{MergeChoice}
 use Rattle.settings.specs.declared.MergeChoice.the-variants.{DiscardLowestPriorityThenPrevious, HtpDmxMerge}
@@ -24,9 +23,8 @@ use Rattle.settings_store.specs.declared.Layouts.{Layouts}
 use Rattle.settings_store.specs.declared.Layouts.the-variants.{First, Both}
 use Rattle.settings_store.specs.declared.StoreSettingsAnswer.{StoreSettingsAnswer}
 use Rattle.settings_store.specs.declared.StoreSettingsAnswer.the-variants.{Stored, TooShort, LimitZero, ExpiryOutOfRange}
-use Rattle.settings_store.specs.declared.LoadSettingsAnswer.{LoadSettingsAnswer}
 use Rattle.settings_store.specs.declared.LoadSettingsAnswer.the-variants.{Loaded, NoSettingsRecord, UnreadableSettingsRecord}
-use Rattle.settings_store.specs.Record.{flag, limit, expiry, layout-1, layout-2, mergeNumber, mergeOf, limitNumber, limitOf, valuesOf, settingsFrom, recordOf, record-length, zero-limit, store-answer, left-by, store-bytes, fields-of, marked, shown, of-layout, loaded, Restores, Stores, Loads}
+use Rattle.settings_store.specs.Record.{limit, expiry, layout-1, layout-2, mergeNumber, mergeOf, limitNumber, limitOf, valuesOf, settingsFrom, recordOf, record-length, zero-limit, store-answer, left-by, store-bytes, fields-of, marked, shown, loaded, Restores, as-layout-2, Rewrites}
 
 -- ── settings and values ──
 on-bit : (b : Bool) → eqb (bit b) 1 ≡ b
@@ -125,19 +123,34 @@ read-with-20000 (p ∷ d ∷ t ∷ o ∷ m ∷ []) h = absurd (h .2 .2 .2 .2 .2)
 read-with-20000 (p ∷ d ∷ t ∷ o ∷ m ∷ l ∷ []) h = refl
 read-with-20000 (p ∷ d ∷ t ∷ o ∷ m ∷ l ∷ x ∷ vs) h = absurd (h .2 .2 .2 .2 .2 .2)
 
+pub eleven-long : size layout-2 ≡ 11
+unfolding size
+eleven-long = refl
+
 -- ── there and back ──
 -- what either reader makes of a record, whatever follows it
-pub record-restores : (s : Settings) (rest : List ℕ) → Narrow s → zero-limit (s .«source_limit») ≡ false → in-range (s .«discovery_expiry») ≡ true → Restores s (recordOf s ++ rest)
-record-restores s rest n z r =
-    let fit = values-fit s n r in
-    let fields = encode layout-2 (valuesOf s) ++ rest in
-    let three : 3 ≤ length (recordOf s ++ rest) = omega arith in
-    let enough : size layout-2 ≤ length fields = omega (arith, length-append (encode layout-2 (valuesOf s)) rest, length-encode layout-2 (valuesOf s) fit) in
-    let t = le-ltb (length (recordOf s ++ rest)) 3 three in
-    record {
-      alike = rw (t, le-ltb (length fields) (size layout-2) enough, decode-encode layout-2 (valuesOf s) rest fit, settings-back s z);
-      refused = rw t;
-    }
+module _ (s : Settings) (n : Narrow s) (z : zero-limit (s .«source_limit») ≡ false) (r : in-range (s .«discovery_expiry») ≡ true) where
+  pub record-fourteen : length (recordOf s) ≡ record-length
+  record-fourteen = omega (arith, length-encode layout-2 (valuesOf s) (values-fit s n r), eleven-long)
+
+  pub record-restores : (behind : List ℕ) → Restores s (recordOf s ++ behind)
+  record-restores behind =
+      let e = take-at (recordOf s) behind record-length record-fourteen in
+      record {
+        alike = λ rest. ap (λ (l : List ℕ). loaded Both (l ++ rest)) e ∙ whole-alike rest;
+        refused = λ rest. ap (λ (l : List ℕ). loaded First (l ++ rest)) e ∙ whole-refused rest;
+      }
+    where
+      whole-alike : (rest : List ℕ) → loaded Both (recordOf s ++ rest) ≡ Loaded s
+      whole-alike rest =
+          let fit = values-fit s n r in
+          let fields = encode layout-2 (valuesOf s) ++ rest in
+          let three : 3 ≤ length (recordOf s ++ rest) = omega arith in
+          let enough : size layout-2 ≤ length fields = omega (arith, length-append (encode layout-2 (valuesOf s)) rest, length-encode layout-2 (valuesOf s) fit) in
+          rw (le-ltb (length (recordOf s ++ rest)) 3 three, le-ltb (length fields) (size layout-2) enough, decode-encode layout-2 (valuesOf s) rest fit, settings-back s z)
+
+      whole-refused : (rest : List ℕ) → loaded First (recordOf s ++ rest) ≡ UnreadableSettingsRecord
+      whole-refused rest = let three : 3 ≤ length (recordOf s ++ rest) = omega arith in rw (le-ltb (length (recordOf s ++ rest)) 3 three)
 
 -- the writer's tests, all passed
 module _ (s : Settings) (n : ℕ) (h : store-answer s n ≡ Stored) where
@@ -160,7 +173,11 @@ module _ (s : Settings) (n : ℕ) (h : store-answer s n ≡ Stored) where
 
 -- "Whatever settings were stored come out again alike": for all settings at which the writer does not stop, whatever bytes are lent
 pub stored-restores : (s : Settings) (before : List ℕ) → Narrow s → store-answer s (length before) ≡ Stored → Restores s (store-bytes s before)
-stored-restores s before n h = rw h (record-restores s (drop record-length before) n (stored-limit s (length before) h) (stored-range s (length before) h))
+stored-restores s before n h = rw h (record-restores s n (stored-limit s (length before) h) (stored-range s (length before) h) (drop record-length before))
+
+-- the bytes as they were left among them
+pub restored-left : (s : Settings) (bytes : List ℕ) → Restores s bytes → (loaded Both bytes ≡ Loaded s) × (loaded First bytes ≡ UnreadableSettingsRecord)
+restored-left s bytes h = (rw (take-append-drop record-length bytes) at (h .alike (drop record-length bytes)), rw (take-append-drop record-length bytes) at (h .refused (drop record-length bytes)))
 
 -- each of the three stops writes nothing
 stops-left : (r : StoreSettingsAnswer) (s : Settings) (before : List ℕ) → (r ≡ Stored → ⊥) → left-by r s before ≡ before
@@ -171,6 +188,22 @@ stops-left ExpiryOutOfRange s before h = refl
 
 pub stopped-left : (s : Settings) (before : List ℕ) → (store-answer s (length before) ≡ Stored → ⊥) → store-bytes s before ≡ before
 stopped-left s before h = stops-left (store-answer s (length before)) s before h
+
+-- ── both layouts by the facts on fields ──
+-- layout 1 is the beginning of layout 2: what layout 2 is decoded to begins with what layout 1 is
+pub layout-1-in-2 : (bs vs : List ℕ) → decode layout-2 bs ≡ values vs → decode layout-1 bs ≡ values (take (length layout-1) vs)
+layout-1-in-2 bs vs h = decode-beginning layout-1 (expiry ∷ []) bs vs h
+
+-- "Bytes after the last field are not read": whatever stands behind as many bytes as the layout needs, taken or refused
+pub behind-unread : (layouts : Layouts) (bytes rest : List ℕ) (fs : List Field) → 3 ≤ length bytes → fields-of layouts (getD bytes 2 0) ≡ some fs → size fs ≤ length (drop 3 bytes)
+    → loaded layouts (bytes ++ rest) ≡ loaded layouts bytes
+behind-unread layouts [] rest fs t f h = absurd (omega arith)
+behind-unread layouts (a ∷ []) rest fs t f h = absurd (omega arith)
+behind-unread layouts (a ∷ b ∷ []) rest fs t f h = absurd (omega arith)
+behind-unread layouts (a ∷ b ∷ c ∷ l) rest fs t f h =
+    let long : size fs ≤ length (l ++ rest) = omega (arith, length-append l rest) in
+    let t′ : 3 ≤ length ((a ∷ b ∷ c ∷ l) ++ rest) = omega arith in
+    rw (le-ltb (length ((a ∷ b ∷ c ∷ l) ++ rest)) 3 t′, le-ltb (length (a ∷ b ∷ c ∷ l)) 3 t, f, le-ltb (length (l ++ rest)) (size fs) long, le-ltb (length l) (size fs) h, decode-behind fs l rest h)
 
 -- ── read, and written again ──
 -- settings that were shown are those of the values that were decoded
@@ -207,14 +240,6 @@ known Both n fs h one two =
     (λ f. let q : some layout-2 ≡ some fs = rw (e, f) at h in two (eqb-true n 2 f) (cc))
     (λ f. let q : none ≡ some fs = rw (e, f) at h in let x : _≡_ {A = ℕ} 0 1 = cc in absurd (omega arith)))
 
--- the fields' bytes as layout 2 has them: of layout 1 with 20,000 behind them
-abbrev pub as-layout-2 : ℕ → List ℕ → List ℕ
-as-layout-2 n rest = cond (eqb n 1) (take (size layout-1) rest ++ encode (expiry ∷ []) (20000 ∷ [])) (take (size layout-2) rest)
-
-pub eleven-long : size layout-2 ≡ 11
-unfolding size
-eleven-long = refl
-
 -- what stands before the fields
 three-bytes : (bytes : List ℕ) → 3 ≤ length bytes → marked bytes ≡ true → getD bytes 2 0 ≡ 2 → take record-length bytes ≡ 0x53 ∷ 0x54 ∷ 2 ∷ take 11 (drop 3 bytes)
 three-bytes [] h m e = absurd (omega arith)
@@ -247,17 +272,18 @@ module _ (layouts : Layouts) (bytes : List ℕ) (s : Settings) (p : Bytes (drop 
   pub taken-proper : Proper s
   taken-proper = taken-as-2 layouts bytes s p h (λ ws fit q e. rw q (values-proper ws fit))
 
-  -- "what the reader takes, written again, is the same record up to layout and the bytes behind it"
-  pub taken-again : recordOf s ≡ 0x53 ∷ 0x54 ∷ 2 ∷ as-layout-2 (getD bytes 2 0) (drop 3 bytes)
-  taken-again = taken-as-2 layouts bytes s p h (λ ws fit q e. rw (q, values-back ws fit, e))
+  pub taken-rewrites : Rewrites bytes s
+  taken-rewrites = record { stored = taken-stored; same = taken-again }
+    where
+      taken-again : recordOf s ≡ 0x53 ∷ 0x54 ∷ 2 ∷ as-layout-2 (getD bytes 2 0) (drop 3 bytes)
+      taken-again = taken-as-2 layouts bytes s p h (λ ws fit q e. rw (q, values-back ws fit, e))
 
-  -- the writer does not stop at them, if the bytes are enough
-  pub taken-stored : (n : ℕ) → record-length ≤ n → store-answer s n ≡ Stored
-  taken-stored n h = rw (le-ltb n record-length h, proper-limit (s .«source_limit») (taken-proper .0), proper-range (s .«discovery_expiry») (taken-proper .1))
+      taken-stored : (n : ℕ) → record-length ≤ n → store-answer s n ≡ Stored
+      taken-stored n h = rw (le-ltb n record-length h, proper-limit (s .«source_limit») (taken-proper .0), proper-range (s .«discovery_expiry») (taken-proper .1))
 
 -- a record of layout 2 is written again byte for byte
 pub taken-same : (bytes : List ℕ) (s : Settings) → Bytes (drop 3 bytes) → loaded Both bytes ≡ Loaded s → getD bytes 2 0 ≡ 2 → recordOf s ≡ take record-length bytes
 taken-same bytes s p h two =
     taken Both bytes s h
     (λ fs vs three m f d q.
-    taken-again Both bytes s p h ∙ (rw (two, eleven-long)) ∙ sym (three-bytes bytes three m two))
+    taken-rewrites Both bytes s p h .same ∙ (rw (two, eleven-long)) ∙ sym (three-bytes bytes three m two))

@@ -6,7 +6,7 @@ use mathlib.Core.Option.{Option, none, some}
 use mathlib.Core.List.{List, [], _∷_, _++_, map}
 use Prim.Native.Nat.{ℕ, _≤_}
 use lib.Dec.{eqb, ltb, leb}
-use lib.ListN.{length, drop, getD, replicate}
+use lib.ListN.{length, take, drop, getD, replicate}
 use Rattle.rules.specs.Answer.{Value}
 use Rattle.rules.specs.Answer as answer
 use Rattle.rules.specs.Bytes.{bit, number, bigEndian}
@@ -46,6 +46,7 @@ abbrev pub layout-2 : List Field
 layout-2 = layout-1 ++ expiry ∷ []
 
 -- ── settings as values of the fields, and back ──
+-- "0 by priority, 1 by highest value"
 abbrev pub mergeNumber : MergeChoice → ℕ
 mergeNumber DiscardLowestPriorityThenPrevious = 0
 mergeNumber HtpDmxMerge = 1
@@ -61,6 +62,7 @@ limitNumber (AtMost n) = n
 abbrev pub limitOf : ℕ → SourceLimit
 limitOf n = cond (eqb n 0) Unlimited (AtMost n)
 
+-- "in this order"
 abbrev pub valuesOf : Settings → List ℕ
 valuesOf s =
     bit (s .«process_preview_data»)
@@ -83,6 +85,7 @@ settingsFrom vs =
 abbrev pub recordOf : Settings → List ℕ
 recordOf s = 0x53 ∷ 0x54 ∷ 2 ∷ encode layout-2 (valuesOf s)
 
+-- mark, layout byte and the eleven bytes of its fields
 abbrev pub record-length : ℕ
 record-length = 14
 
@@ -161,10 +164,10 @@ loadValues NoSettingsRecord = []
 loadValues UnreadableSettingsRecord = []
 
 -- ── what the calls promise ──
--- "Whatever settings were stored come out again alike, and a layout 1 reader given layout 2 stops by number and shows no setting."
+-- "Whatever settings were stored come out again alike, and a layout 1 reader given layout 2 stops by number and shows no setting.": whatever bytes follow
 pub record Restores (s : Settings) (bytes : List ℕ) : Type 0 where
-  pub alike : loaded Both bytes ≡ Loaded s
-  pub refused : loaded First bytes ≡ UnreadableSettingsRecord
+  pub alike : (rest : List ℕ) → loaded Both (take record-length bytes ++ rest) ≡ Loaded s
+  pub refused : (rest : List ℕ) → loaded First (take record-length bytes ++ rest) ≡ UnreadableSettingsRecord
 
 -- the writer: answer, bytes, and what either reader then makes of them
 pub record Stores (s : Settings) (before : List ℕ) (r : StoreSettingsAnswer) (after : List ℕ) : Type 0 where
@@ -172,10 +175,20 @@ pub record Stores (s : Settings) (before : List ℕ) (r : StoreSettingsAnswer) (
   pub bytes-are : after ≡ store-bytes s before
   pub restores : r ≡ Stored → Restores s after
 
--- the reader: its answer, and that settings which were read are such as the setters leave
+-- the bytes of the fields as layout 2 has them: of layout 1 with 20,000 behind them
+abbrev pub as-layout-2 : ℕ → List ℕ → List ℕ
+as-layout-2 layout rest = cond (eqb layout 1) (take (size layout-1) rest ++ encode (expiry ∷ []) (20000 ∷ [])) (take (size layout-2) rest)
+
+-- settings that were read, written again: the writer does not stop, and the record is the same up to the layout and the bytes behind it
+pub record Rewrites (bytes : List ℕ) (s : Settings) : Type 0 where
+  pub stored : (n : ℕ) → record-length ≤ n → store-answer s n ≡ Stored
+  pub same : recordOf s ≡ 0x53 ∷ 0x54 ∷ 2 ∷ as-layout-2 (getD bytes 2 0) (drop 3 bytes)
+
+-- the reader: its answer, and of settings that were read that they are such as the setters leave, and what they are written as
 pub record Loads (layouts : Layouts) (bytes : List ℕ) (r : LoadSettingsAnswer) : Type 0 where
   pub answer-is : r ≡ loaded layouts bytes
   pub proper : (s : Settings) → r ≡ Loaded s → Proper s
+  pub again : (s : Settings) → r ≡ Loaded s → Rewrites bytes s
 
 -- ── in numbers: every row is computed, and stands before the laws ──
 -- records byte by byte

@@ -1,33 +1,29 @@
 -- A record byte by byte, as code writes and reads it: one law for each return of the writer and of the reader.
 -- Assumes nothing.
 use mathlib.Core.Path.{_≡_, refl, sym, ap, _∙_}
-use mathlib.Core.Bool.{Bool, true, false, cond, not, _&&_}
+use mathlib.Core.Bool.{Bool, true, false, cond, _&&_}
 use mathlib.Core.Option.{Option, none, some}
-use mathlib.Core.List.{List, [], _∷_, _++_, append-nil}
-use Prim.Native.Nat.{ℕ, zero, suc, _/_, _%_, _≤_, _<_}
+use mathlib.Core.List.{List, [], _∷_, _++_}
+use Prim.Native.Nat.{ℕ, suc, _/_, _%_, _≤_, _<_}
 use native.Mathlib.Omega.{arith}
 use native.Mathlib.Nat.{div-one, mod-eq-of-lt}
-use lib.Dec.{eqb, ltb, leb}
-use lib.ListN.{length, take, drop, getD, length-append, length-drop}
+use lib.Dec.{leb}
+use lib.ListN.{length, drop, getD, length-drop}
 use lib.Seq.{getD-drop}
-use borrow.Author.Tests.{eq-eqb, eqb-true, eqb-false, ne-eqb, ltb-true, ltb-false, lt-ltb, le-ltb, leb-true, leb-false}
-use Rattle.laws.specs.Cases.{split, found}
+use borrow.Author.Tests.{eq-eqb, ne-eqb, lt-ltb, le-ltb}
+use Rattle.laws.specs.Cases.{split}
 use Rattle.rules.specs.Bytes.{Bytes, number, bigEndian, bit}
-use Rattle.fields.specs.Fields.{Field, size, Fit, encode, Decoded, values, short, out-of-range, with-value, decode, joined, decode-front, decode-none, decode-append, length-encode, decode-encode, decode-fits, encode-decode, encode-append, fit-append, fit-length}
+use Rattle.fields.specs.Fields.{Field, size, encode, Decoded, values, out-of-range, with-value, decode, joined, decode-front, decode-none, decode-append}
 use Rattle.settings.specs.declared.Settings.{Settings}
-use Rattle.settings.specs.declared.MergeChoice.{MergeChoice}
-use Rattle.settings.specs.declared.MergeChoice.the-variants.{DiscardLowestPriorityThenPrevious, HtpDmxMerge}
-use Rattle.settings.specs.declared.SourceLimit.{SourceLimit}
-use Rattle.settings.specs.declared.SourceLimit.the-variants.{Unlimited, AtMost}
-use Rattle.settings.specs.Settings.{settings, in-range, range-proper, Proper, Proper-limit}
+use Rattle.settings.specs.Settings.{in-range}
 use Rattle.settings_store.specs.declared.Layouts.{Layouts}
 use Rattle.settings_store.specs.declared.Layouts.the-variants.{First, Both}
 use Rattle.settings_store.specs.declared.StoreSettingsAnswer.{StoreSettingsAnswer}
 use Rattle.settings_store.specs.declared.StoreSettingsAnswer.the-variants.{Stored, TooShort, LimitZero, ExpiryOutOfRange}
 use Rattle.settings_store.specs.declared.LoadSettingsAnswer.{LoadSettingsAnswer}
 use Rattle.settings_store.specs.declared.LoadSettingsAnswer.the-variants.{Loaded, NoSettingsRecord, UnreadableSettingsRecord}
-use Rattle.settings_store.specs.Record.{flag, limit, expiry, layout-1, layout-2, mergeNumber, mergeOf, limitNumber, limitOf, valuesOf, settingsFrom, recordOf, record-length, zero-limit, store-answer, left-by, store-bytes, fields-of, marked, shown, of-layout, loaded, Restores, Stores, Loads}
-use Rattle.settings_store.specs.Laws.{bit-small, merge-small, Narrow, record-restores, stopped-left, eleven-long, taken-proper}
+use Rattle.settings_store.specs.Record.{flag, limit, expiry, layout-1, layout-2, mergeNumber, limitNumber, settingsFrom, recordOf, record-length, zero-limit, store-answer, fields-of, marked, shown, of-layout, loaded, Stores, Loads}
+use Rattle.settings_store.specs.Laws.{bit-small, merge-small, Narrow, record-restores, stopped-left, eleven-long, taken-proper, taken-rewrites}
 
 -- ── a record byte by byte ──
 one-byte : (v : ℕ) → v < 256 → bigEndian 1 v ≡ v ∷ []
@@ -85,7 +81,7 @@ module _ (s : Settings) (before : List ℕ) where
       record {
         answer-is = sym e;
         bytes-are = rw e (cc);
-        restores = λ q. rw (a, w .0) (record-restores s (drop record-length before) (w .1) z r);
+        restores = λ q. rw (a, w .0) (record-restores s (w .1) z r (drop record-length before));
       }
 
 -- ── a record read byte by byte ──
@@ -209,7 +205,11 @@ all-bytes (b ∷ l) h = (h 0, all-bytes l (λ i. h (suc i)))
 -- and of the reader
 module _ (layouts : Layouts) (bytes : List ℕ) where
   stopped : NoSettingsRecord ≡ loaded layouts bytes → Loads layouts bytes NoSettingsRecord
-  stopped e = record { answer-is = e; proper = λ s q. let x : _≡_ {A = ℕ} 0 1 = cc in absurd (omega arith) }
+  stopped e = record {
+    answer-is = e;
+    proper = λ s q. let x : _≡_ {A = ℕ} 0 1 = cc in absurd (omega arith);
+    again = λ s q. let x : _≡_ {A = ℕ} 0 1 = cc in absurd (omega arith);
+  }
 
   pub loads-short : length bytes < 3 → Loads layouts bytes NoSettingsRecord
   loads-short h = stopped (rw (lt-ltb (length bytes) 3 h))
@@ -221,4 +221,8 @@ module _ (layouts : Layouts) (bytes : List ℕ) where
       → r ≡ of-layout fs (drop 3 bytes) → Loads layouts bytes r
   loads-fields r fs p h m f e =
       let q : r ≡ loaded layouts bytes = e ∙ ap (λ (x : Option (List Field)). of-layout x (drop 3 bytes)) f ∙ (rw (le-ltb (length bytes) 3 h, m)) in
-      record { answer-is = q; proper = λ s t. taken-proper layouts bytes s p (sym q ∙ t) }
+      record {
+        answer-is = q;
+        proper = λ s t. taken-proper layouts bytes s p (sym q ∙ t);
+        again = λ s t. taken-rewrites layouts bytes s p (sym q ∙ t);
+      }
