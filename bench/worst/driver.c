@@ -26,6 +26,7 @@ typedef struct {
 static memory now, kept;
 static uint8_t out[TAMBURELVI_OUTPUT], values[TAMBURELVI_VALUES], name[TAMBURELVI_NAME];
 static uint16_t list[1024];
+static uint8_t record[TAMBURELVI_SETTINGS_RECORD];
 static uint8_t other[8 << 20];
 
 #define TABLES (void *)now.data_pairs, (void *)now.data_sources, (void *)now.sync_pairs, (void *)now.sync_sources
@@ -67,6 +68,8 @@ static void clear_all(void) { reply.header = tamburelvi_clear_all_waiting_data(n
 static void reset_pairs(void) { reply.header = tamburelvi_reset_pairs(now.header); }
 static void reset_discovery(void) { reply.header = tamburelvi_reset_discovery(now.header); }
 static void reset_sources(void) { reply.header = tamburelvi_reset_sources(now.header); }
+static void store_settings(void) { reply.header = now.header; reply.answer = tamburelvi_store_settings(settings, record, sizeof record); }
+static void load_settings(void) { reply.header = now.header; reply.answer.number = tamburelvi_load_settings(settings, record, sizeof record).number; }
 static void source_at(void) { reply.header = now.header; reply.answer.first = tamburelvi_source_at(now.header, (void *)now.sources, 1, 63).place; }
 static void page_at(void) { reply.header = now.header; reply.answer.first = tamburelvi_page_at(now.header, (void *)now.pages, 1, WORD, source, 0).place; }
 
@@ -580,6 +583,7 @@ static void start_most(void) {
     expect_nothing();
     expected.listened = 1;
 }
+static void record_whole(void) { start_most(); make(store_settings); }
 static void read_source(void) { sources_64(false); expect(0, TAMBURELVI_NONE, 63, 0, 0, 0); }
 static void read_page(void) { sources_64(false); source = cid(63); expect(0, TAMBURELVI_NONE, 63, 0, 0, 0); }
 
@@ -645,6 +649,8 @@ static const row cases[] = {
     {"reset_discovery", "everything full", reset_discovery_full, reset_discovery, 1, false},
     {"reset_sources", "everything full", reset_sources_full, reset_sources, 1, false},
     {"new", "any", start_most, start, 1, false},
+    {"store_settings", "any", start_most, store_settings, 1, false},
+    {"load_settings", "a record of layout 2", record_whole, load_settings, 1, false},
     {"source_at", "the last of 64", read_source, source_at, 1, false},
     {"page_at", "the last of 64", read_page, page_at, 1, false},
 };
@@ -669,6 +675,7 @@ static void chill(void) {
     flush(values, sizeof values);
     flush(list, sizeof list);
     flush(name, sizeof name);
+    flush(record, sizeof record);
     _mm_mfence();
     for (size_t i = 0; i < sizeof other; i += 64) sum += other[i];
     seen = sum;
