@@ -156,7 +156,7 @@ fn store(session: Session, lent: &mut [u8], out: &mut [u8]) -> Session
     }
 }
 
-// As many bytes as LEN can ask for, each of them cc.
+// As many bytes as a length of eight bits can ask for, each of them cc; the script asks for 64 at most.
 fn blank() -> [u8; 255]
     ensures { λ r. ⌜ r ≡ replicate 255 0xCC ⌝ }
 {

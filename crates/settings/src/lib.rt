@@ -1,8 +1,6 @@
-// Document 01, 'Settings': preview, three announcements, merge choice and source limit; document 02, F-3: the discovery expiry. The setters take a record and hand back the next; those of `lent` change a record lent to them.
+// Document 01, 'Settings': preview, three announcements, merge choice and source limit; document 02, F-3: the discovery expiry. The setters take a record and hand back the next; those of `settings_lent` change a record lent to them.
 ghost use mathlib.Core.Path.{_≡_};
 ghost use Rattle.settings.specs.Settings.{fresh, withPreview, withDiscovery, withTermination, withTimeout, withMerge, withoutLimit, limited, in-range, expiring, Keeps, Proper};
-
-pub mod lent;
 
 // How a packet joins the data that waits for its universe.
 pub enum MergeChoice {

@@ -39,17 +39,17 @@ use denote.Triple.Table.{entered, cited}
 use denote.Triple.Walked.{Stays, stay-ref, stay-dropped, walkOf, AllGo, goes-dropped, goes-ref, Walks, ends-at, walked, walk-meets}
 use denote.Exit.{yes}
 use denote.Triple.Clauses.{Ended, Clauses, closing, ensured, lasts}
 use Rattle.settings.specs.Settings.{Keeps}
 use Rattle.settings.specs.declared.Settings.{Settings}
 use Rattle.settings.specs.declared.SettingAnswer.{SettingAnswer}
 use Rattle.settings.specs.declared.Adjusted.{Adjusted}
 use Rattle.settings.proofs.Settings as S
 use Rattle.settings.proofs.Settings.Laws as S′
 use Rattle.settings.proofs.SettingAnswer as N
 use Rattle.settings.proofs.SettingAnswer.Laws as N′
 use Rattle.settings.proofs.Adjusted as L
 use Rattle.settings.proofs.Adjusted.Laws as L′
-use Rattle.settings.proofs.Stored.{Single, mach, typed, says-both}
+use Rattle.settings_lent.proofs.Stored.{Single, mach, typed, says-both}
 
 -- the machine value of an answer
 abbrev told : SettingAnswer → Val

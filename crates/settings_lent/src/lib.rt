@@ -1,9 +1,9 @@
 // Document 01, 'Settings': "The setters change a small settings record lent to them." Each stores what the setter by value hands back.
 ghost use mathlib.Core.Path.{_≡_};
 ghost use Rattle.settings.specs.Settings.{withPreview, withDiscovery, withTermination, withTimeout, withMerge, withoutLimit, limited, expiring, Keeps};
-use crate::MergeChoice;
-use crate::SettingAnswer;
-use crate::Settings;
+use settings::MergeChoice;
+use settings::SettingAnswer;
+use settings::Settings;
 
 pub fn set_process_preview_data(s: &mut Settings, on: bool)
     ensures { λ _. ⌜ now (s .exit) ≡ withPreview on (now (s .entry)) ⌝ }

@@ -34,18 +34,18 @@ use denote.Triple.Spec.{Meets, tripleOf}
 use denote.Triple.Table.{entered, cited}
 use denote.Triple.Walked.{Stays, stay-ref, walkOf, AllGo, goes-ref, Walks, ends-at, walked, walk-meets}
 use denote.Triple.Clauses.{ensured, lasts}
 use Rattle.settings.specs.Settings.{withoutLimit, Keeps, unlimited-keeps}
 use Rattle.settings.specs.declared.Settings.{Settings}
 use Rattle.settings.proofs.Settings as S
 use Rattle.settings.proofs.Settings.Laws as S′
-use Rattle.settings.proofs.Stored.{mach, typed, says-both}
+use Rattle.settings_lent.proofs.Stored.{mach, typed, says-both}
 use Rattle.settings.proofs.Settings.clear_source_limit as by-value
 use Rattle.settings.proofs.Settings.clear_source_limit.Symbol as by-value-def
 use Rattle.settings.proofs.Settings.clear_source_limit.Met as by-value-thm
-use Rattle.settings.proofs.lent.clear_source_limit.Key.{name}
-use Rattle.settings.proofs.lent.clear_source_limit as f
-use Rattle.settings.proofs.lent.clear_source_limit.Statement.{statement}
-use Rattle.settings.proofs.lent.clear_source_limit.Code as code
+use Rattle.settings_lent.proofs.clear_source_limit.Key.{name}
+use Rattle.settings_lent.proofs.clear_source_limit as f
+use Rattle.settings_lent.proofs.clear_source_limit.Statement.{statement}
+use Rattle.settings_lent.proofs.clear_source_limit.Code as code
 
 abbrev stayed : Stays (f.ended .signature .params) (f.ended .kept)
 stayed = (stay-ref (0 ∷ []) tt (plain (λ _. S.the-row)), tt)
