@@ -4,7 +4,7 @@
 use mathlib.Core.Path.{_≡_, refl, sym, ap, _∙_}
 use mathlib.Core.Bool.{Bool, true, cond}
 use mathlib.Core.List.{List, [], _∷_, _++_, map, append-assoc}
-use Prim.Native.Nat.{ℕ, zero, suc, _+_, _^_, _≤_, _<_}
+use Prim.Native.Nat.{ℕ, suc, _+_, _^_, _≤_, _<_}
 use native.Mathlib.Omega.{arith}
 use native.Mathlib.Nat.{mod-eq-of-lt}
 use lib.Dec.{ltb}
@@ -12,7 +12,7 @@ use lib.ListN.{length, take, drop, length-append, length-take, length-drop}
 use lib.Seq.{take-at, drop-at, take-add, take-append-le, length-take-le, drop-drop}
 use borrow.Author.Tests.{ltb-true, ltb-false, lt-ltb, le-ltb}
 use Rattle.laws.specs.Cases.{split}
-use Rattle.rules.specs.Bytes.{number, bigEndian, Bytes, length-bigEndian, number-bigEndian, bigEndian-number, number-below}
+use Rattle.rules.specs.Bytes.{number, bigEndian, Bytes, length-bigEndian, number-bigEndian, bigEndian-number, number-below, bytes-take, bytes-drop}
 
 pub record Field : Type 0 where
   -- how many bytes it takes
@@ -227,16 +227,6 @@ decode-beginning (f ∷ fs) gs bs vs h =
     (λ ws l a d q.
     let r = decode-beginning fs gs (drop (f .width) bs) ws d in
     rw (decode-taken f fs bs l, a, r, q))
-
-bytes-take : (n : ℕ) (bs : List ℕ) → Bytes bs → Bytes (take n bs)
-bytes-take zero bs p = tt
-bytes-take (suc n) [] p = tt
-bytes-take (suc n) (b ∷ bs) p = (p .0, bytes-take n bs (p .1))
-
-bytes-drop : (n : ℕ) (bs : List ℕ) → Bytes bs → Bytes (drop n bs)
-bytes-drop zero bs p = p
-bytes-drop (suc n) [] p = tt
-bytes-drop (suc n) (b ∷ bs) p = bytes-drop n bs (p .1)
 
 -- what was decoded from bytes fits, and encodes to those bytes
 pub decode-fits : (fs : List Field) (bs vs : List ℕ) → Bytes bs → decode fs bs ≡ values vs → Fit fs vs

@@ -2,9 +2,9 @@
 -- Assumes nothing.
 use mathlib.Core.Path.{_≡_, refl, sym, ap, _∙_}
 use mathlib.Core.Logic.{_≢_}
-use mathlib.Core.Bool.{Bool, true, false, cond, _&&_}
+use mathlib.Core.Bool.{Bool, true, false, _&&_}
 use mathlib.Core.List.{List, [], _∷_, _++_}
-use Prim.Native.Nat.{ℕ, zero, suc, _<_, _≤_, _^_}
+use Prim.Native.Nat.{ℕ, _<_, _^_}
 use native.Mathlib.Omega.{arith}
 use native.Mathlib.Nat.{mod-eq-of-lt}
 use lib.Dec.{ltb, eqb}
@@ -14,7 +14,7 @@ use borrow.Author.Tests.{eq-eqb, eqb-true}
 use Rattle.laws.specs.Cases.{split}
 use Rattle.laws.specs.Order.{Order, ℕ-order, before-by, order-by}
 use Rattle.rules.specs.declared.Cid.{Cid}
-use Rattle.rules.specs.Bytes.{number, bigEndian, Bytes, bytes-before, number-order, before-append, length-bigEndian, bytes-bigEndian, number-bigEndian, bigEndian-number}
+use Rattle.rules.specs.Bytes.{number, bigEndian, Bytes, bytes-take, bytes-drop, bytes-before, number-order, before-append, length-bigEndian, bytes-bigEndian, number-bigEndian, bigEndian-number}
 
 -- "A source is a 16-byte CID."
 abbrev pub cidOf : List ℕ → Cid
@@ -52,16 +52,6 @@ same-path a b h =
 -- and not where they differ
 pub same-not : (a b : Cid) → a ≢ b → same a b ≡ false
 same-not a b n = split (same a b) (λ h. absurd (n (same-path a b h))) (λ h. h)
-
-bytes-take : (n : ℕ) (l : List ℕ) → Bytes l → Bytes (take n l)
-bytes-take zero l h = tt
-bytes-take (suc n) [] h = tt
-bytes-take (suc n) (b ∷ l) h = (h .0, bytes-take n l (h .1))
-
-bytes-drop : (n : ℕ) (l : List ℕ) → Bytes l → Bytes (drop n l)
-bytes-drop zero l h = h
-bytes-drop (suc n) [] h = tt
-bytes-drop (suc n) (b ∷ l) h = bytes-drop n l (h .1)
 
 bytes-append : (s t : List ℕ) → Bytes s → Bytes t → Bytes (s ++ t)
 bytes-append [] t p q = q
