@@ -15,13 +15,13 @@ use settings::Settings;
 use waiting_calls::Waiting;
 use waiting_store::{EntryRows, write_record};
 
-#[derive(Drop)]
+#[derive(Clone, Copy)]
 struct PacketReleased {
     waiting: Waiting,
     bytes: usize,
 }
 
-#[derive(Drop)]
+#[derive(Clone, Copy)]
 pub struct Accepted {
     pub waiting: Waiting,
     pub listened: Listened,

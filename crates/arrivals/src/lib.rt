@@ -22,7 +22,7 @@ use waiting_calls::Waiting;
 use waiting_store::{EntryRows, write_record};
 
 // What the short way makes of a data packet: its record's length, or nothing.
-#[derive(Drop)]
+#[derive(Clone, Copy)]
 pub enum Short {
     Released(usize),
     Left,
@@ -67,7 +67,7 @@ pub fn release_known(
     Short::Left
 }
 
-#[derive(Drop)]
+#[derive(Clone, Copy)]
 pub struct DataArrived {
     pub data: DataTable,
     pub waiting: Waiting,
@@ -75,7 +75,7 @@ pub struct DataArrived {
     pub answer: StepAnswer,
 }
 
-#[derive(Drop)]
+#[derive(Clone, Copy)]
 pub struct SyncArrived {
     pub sync: SyncTable,
     pub waiting: Waiting,

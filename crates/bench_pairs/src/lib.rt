@@ -14,7 +14,7 @@ use settings::SourceLimit;
 
 // The header of a table, and the number of the last answer.
 #[repr(C)]
-#[derive(Drop)]
+#[derive(Clone, Copy)]
 pub struct Header {
     pub count: usize,
     pub source_count: usize,

@@ -24,7 +24,7 @@ use waiting_calls::Waiting;
 
 // The counts and notes of every table.
 #[repr(C)]
-#[derive(Drop)]
+#[derive(Clone, Copy)]
 pub struct Header {
     pub data_pairs: usize,
     pub data_sources: usize,
@@ -43,7 +43,7 @@ pub struct Header {
 
 // The settings. Merge is 0 for the choice by priority, any other number for the highest values; a limit of 0 is none; the discovery expiry is taken as it is.
 #[repr(C)]
-#[derive(Drop)]
+#[derive(Clone, Copy)]
 pub struct Choices {
     pub process_preview_data: bool,
     pub announce_source_discovery: bool,
@@ -56,7 +56,7 @@ pub struct Choices {
 
 // A data packet but for its values. A CID is two words, most significant first.
 #[repr(C)]
-#[derive(Drop)]
+#[derive(Clone, Copy)]
 pub struct Data {
     pub hi: u64,
     pub lo: u64,
@@ -71,7 +71,7 @@ pub struct Data {
 
 // A synchronisation packet.
 #[repr(C)]
-#[derive(Drop)]
+#[derive(Clone, Copy)]
 pub struct Sync {
     pub hi: u64,
     pub lo: u64,
@@ -81,7 +81,7 @@ pub struct Sync {
 
 // A discovery packet but for its name and its universes.
 #[repr(C)]
-#[derive(Drop)]
+#[derive(Clone, Copy)]
 pub struct Page {
     pub hi: u64,
     pub lo: u64,
@@ -91,7 +91,7 @@ pub struct Page {
 
 // The number of an answer, which values it has, and the values.
 #[repr(C)]
-#[derive(Drop)]
+#[derive(Clone, Copy)]
 pub struct Answer {
     pub first: usize,
     pub second: usize,
@@ -103,7 +103,7 @@ pub struct Answer {
 }
 
 #[repr(C)]
-#[derive(Drop)]
+#[derive(Clone, Copy)]
 pub struct Reply {
     pub header: Header,
     pub answer: Answer,
@@ -111,7 +111,7 @@ pub struct Reply {
 
 // What a setter that can refuse leaves and answers.
 #[repr(C)]
-#[derive(Drop)]
+#[derive(Clone, Copy)]
 pub struct Adjusted {
     pub choices: Choices,
     pub number: u8,

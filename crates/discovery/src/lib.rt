@@ -1,4 +1,5 @@
 // Document 01, 'Discovery': its sizes, and what a page's arrival answers. The definitions stand in specs/.
+#![tactic(auto)]
 
 // "At most 64 pages held, partial and listed together": `capacity`; `take_page` of discovery_calls is proved with both.
 pub const PAGES: usize = 64;
@@ -13,7 +14,7 @@ pub const NAME: usize = 63;
 pub const POOL: usize = PAGES * PAGE_UNIVERSES;
 
 // What a page's arrival answers.
-#[derive(Drop)]
+#[derive(Clone, Copy)]
 pub enum PageAnswer {
     // The page was taken; its source is not listed by it.
     Taken,
@@ -24,7 +25,7 @@ pub enum PageAnswer {
 }
 
 // What the call for a page answers, whatever its lengths.
-#[derive(Drop)]
+#[derive(Clone, Copy)]
 pub enum PageCall {
     // The page is not too long, and arrived.
     Done(PageAnswer),

@@ -21,7 +21,7 @@ use discovery_rows::{HeadRows, NameRows, PageRows};
 use rules::Cid;
 
 // What is known of the sources, in rows and a pool of universes that the caller lends to every call.
-#[derive(Drop)]
+#[derive(Clone, Copy)]
 pub struct Discovery {
     pub source_count: usize,
     pub page_count: usize,
@@ -29,14 +29,14 @@ pub struct Discovery {
 }
 
 // The state after a page's arrival, and its answer.
-#[derive(Drop)]
+#[derive(Clone, Copy)]
 pub struct PageArrived {
     pub discovery: Discovery,
     pub answer: PageAnswer,
 }
 
 // The state after the call, and its answer.
-#[derive(Drop)]
+#[derive(Clone, Copy)]
 pub struct PageCalled {
     pub discovery: Discovery,
     pub answer: PageCall,

@@ -17,7 +17,7 @@ use discovery_rows::rows::{insert_page, page_place};
 use rules::Cid;
 
 // How many pages are left, and how many universes they have.
-#[derive(Drop)]
+#[derive(Clone, Copy)]
 pub struct Left {
     pub page_count: usize,
     pub used: usize,

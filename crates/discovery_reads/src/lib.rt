@@ -214,7 +214,7 @@ pub fn page_universes<'a>(
 }
 
 // What a source's row says beside its mark; the name is the first name_length bytes of the name row.
-#[derive(Drop)]
+#[derive(Clone, Copy)]
 pub struct SourceHead {
     pub cid: Cid,
     pub name_length: u64,
@@ -223,7 +223,7 @@ pub struct SourceHead {
 }
 
 // What a page's row says beside its owner.
-#[derive(Drop)]
+#[derive(Clone, Copy)]
 pub struct PageHead {
     pub number: u64,
     pub count: u64,

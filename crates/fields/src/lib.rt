@@ -1,4 +1,7 @@
 // Records of fields: definitions and laws in specs/; here the numbers that two and four bytes spell, most significant first.
+
+#![tactic(auto)]
+
 ghost use Rattle.std.specs.Prelude.{◌≡◌, [], ◌∷◌};
 ghost use Rattle.rules.specs.Bytes.{number};
 

@@ -16,7 +16,7 @@ use waiting::{RELEASE_LENGTH, STORE_LENGTH};
 const PAGE_BYTES: usize = POOL * 2;
 
 // What a test of lengths finds.
-#[derive(Drop)]
+#[derive(Clone, Copy)]
 pub enum Measured {
     Fits,
     // 1: the length.

@@ -18,41 +18,41 @@ pub const LISTENED: usize = 1024;
 pub type ListenedUniverses = [u16; LISTENED];
 
 // The lent rows hold the universes in ascending order; the first count are in use.
-#[derive(Drop)]
+#[derive(Clone, Copy)]
 pub struct Listened {
     pub count: usize,
 }
 
 // What `listen_universes` leaves and answers.
-#[derive(Drop)]
+#[derive(Clone, Copy)]
 pub struct ListenDone {
     pub listened: Listened,
     pub answer: ListenAnswer,
 }
 
 // What `mute_universe` leaves and answers.
-#[derive(Drop)]
+#[derive(Clone, Copy)]
 pub struct MuteDone {
     pub listened: Listened,
     pub answer: MuteAnswer,
 }
 
 // Where a universe stands, or where it would be put in.
-#[derive(Drop)]
+#[derive(Clone, Copy)]
 enum Spot {
     Taken(usize),
     Free(usize),
 }
 
 // The count after universes were put in, or no room for them.
-#[derive(Drop)]
+#[derive(Clone, Copy)]
 enum Joined {
     Count(usize),
     Full,
 }
 
 // The first illegal universe, if there is one.
-#[derive(Drop)]
+#[derive(Clone, Copy)]
 enum Illegal {
     First(u16),
     Nothing,

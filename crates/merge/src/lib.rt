@@ -1,18 +1,21 @@
 // Document 01, 'Merging': data with all seven fields, and what the two merge choices answer. What they mean stands in specs/.
+
+#![tactic(auto)]
+
 ghost use Rattle.std.specs.Prelude.{◌≡◌};
 ghost use Rattle.merge.specs.Merge.{most_values};
 
 use rules::Cid;
 
 // Whose data it is: one source's, or no longer one source's.
-#[derive(Drop)]
+#[derive(Clone, Copy)]
 pub enum SourceCid {
     Merged,
     Of(Cid),
 }
 
 // All fields of the crate's DMXData but the values, which stand beside it as a lent part.
-#[derive(Drop)]
+#[derive(Clone, Copy)]
 pub struct DmxData {
     pub universe: u16,
     pub sync_uni: u16,
@@ -23,7 +26,7 @@ pub struct DmxData {
 }
 
 // What a direct highest-value merge answers.
-#[derive(Drop)]
+#[derive(Clone, Copy)]
 pub enum HtpAnswer {
     // The merged data and the number of its values.
     Merged(DmxData, usize),
@@ -36,7 +39,7 @@ pub enum HtpAnswer {
 }
 
 // What a direct choice by priority answers: which of the two wins.
-#[derive(Drop)]
+#[derive(Clone, Copy)]
 pub enum Choice {
     Older,
     Newer,

@@ -1,8 +1,11 @@
 // The answers of the receiver's calls. What each call does is defined in specs/; this crate has no functions.
+
+#![tactic(auto)]
+
 use rules::Cid;
 
 // A step on a packet.
-#[derive(Drop)]
+#[derive(Clone, Copy)]
 pub enum StepAnswer {
     Nothing,
     // Records and bytes of the release.
@@ -38,7 +41,7 @@ pub enum StepAnswer {
 }
 
 // A poll.
-#[derive(Drop)]
+#[derive(Clone, Copy)]
 pub enum PollAnswer {
     Polled,
     // 4
@@ -48,7 +51,7 @@ pub enum PollAnswer {
 }
 
 // The discovery sweep.
-#[derive(Drop)]
+#[derive(Clone, Copy)]
 pub enum ExpiryAnswer {
     Swept,
     // 15
@@ -56,7 +59,7 @@ pub enum ExpiryAnswer {
 }
 
 // `listen_universes`
-#[derive(Drop)]
+#[derive(Clone, Copy)]
 pub enum ListenAnswer {
     Listening,
     // 2: the first illegal universe.
@@ -66,7 +69,7 @@ pub enum ListenAnswer {
 }
 
 // `mute_universe`
-#[derive(Drop)]
+#[derive(Clone, Copy)]
 pub enum MuteAnswer {
     Muted,
     // 2
@@ -76,7 +79,7 @@ pub enum MuteAnswer {
 }
 
 // `clear_waiting_data`
-#[derive(Drop)]
+#[derive(Clone, Copy)]
 pub enum ClearAnswer {
     // Whether the universe had waiting data.
     Cleared(bool),

@@ -19,7 +19,7 @@ use timeouts::{is_idle, poll};
 use waiting_store::EntryRows;
 
 // What lengths and poll leave, and whether they end the step.
-#[derive(Drop)]
+#[derive(Clone, Copy)]
 pub struct Opened {
     pub receiver: Receiver,
     pub stopped: bool,

@@ -7,7 +7,7 @@ use rules::{Cid, DataSequence, SyncSequence};
 use settings::Settings;
 
 // A data packet but for its values.
-#[derive(Drop)]
+#[derive(Clone, Copy)]
 pub struct DataPacket {
     pub cid: Cid,
     pub universe: u16,
@@ -19,7 +19,7 @@ pub struct DataPacket {
     pub force_synchronization: bool,
 }
 
-#[derive(Drop)]
+#[derive(Clone, Copy)]
 pub struct SyncPacket {
     pub cid: Cid,
     pub address: u16,
@@ -27,7 +27,7 @@ pub struct SyncPacket {
 }
 
 // A discovery packet but for its name and its universes.
-#[derive(Drop)]
+#[derive(Clone, Copy)]
 pub struct DiscoveryPacket {
     pub cid: Cid,
     pub page: u8,
@@ -60,7 +60,7 @@ pub fn is_unwanted(preview: bool, settings: Settings) -> bool
 }
 
 // What is done with a data packet that is wanted.
-#[derive(Drop)]
+#[derive(Clone, Copy)]
 pub enum Course {
     End,
     Arrive,

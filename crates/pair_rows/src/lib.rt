@@ -31,7 +31,7 @@ pub type PairRows = [PairRow; PAIRS];
 pub type SourceRows = [SourceRow; PAIRS];
 
 // Where a pair stands.
-#[derive(Drop)]
+#[derive(Clone, Copy)]
 pub enum Found {
     At(usize),
     Nothing,

@@ -23,7 +23,7 @@ use settings::SourceLimit;
 
 // What a table says of its lent rows: how many pairs and sources are in use, a reading that no pair is older than, and whether each listed CID is
 // known to have a pair.
-#[derive(Drop)]
+#[derive(Clone, Copy)]
 pub struct PairTable {
     pub count: usize,
     pub source_count: usize,
@@ -31,20 +31,20 @@ pub struct PairTable {
     pub tidy: bool,
 }
 
-#[derive(Drop)]
+#[derive(Clone, Copy)]
 pub struct Swept {
     pub table: PairTable,
     pub answer: SweepAnswer,
 }
 
-#[derive(Drop)]
+#[derive(Clone, Copy)]
 pub struct Removal {
     pub table: PairTable,
     // The pair was there.
     pub known: bool,
 }
 
-#[derive(Drop)]
+#[derive(Clone, Copy)]
 pub struct Arrival {
     pub table: PairTable,
     pub answer: Checked,
@@ -474,24 +474,24 @@ impl PairTable {
 }
 
 // The table of data packets: only a data sequence number enters it.
-#[derive(Drop)]
+#[derive(Clone, Copy)]
 pub struct DataTable {
     pub table: PairTable,
 }
 
-#[derive(Drop)]
+#[derive(Clone, Copy)]
 pub struct DataSwept {
     pub table: DataTable,
     pub answer: SweepAnswer,
 }
 
-#[derive(Drop)]
+#[derive(Clone, Copy)]
 pub struct DataRemoval {
     pub table: DataTable,
     pub known: bool,
 }
 
-#[derive(Drop)]
+#[derive(Clone, Copy)]
 pub struct DataArrival {
     pub table: DataTable,
     pub answer: Checked,
@@ -645,24 +645,24 @@ impl DataTable {
 }
 
 // The table of synchronisation packets: only a synchronisation sequence number enters it.
-#[derive(Drop)]
+#[derive(Clone, Copy)]
 pub struct SyncTable {
     pub table: PairTable,
 }
 
-#[derive(Drop)]
+#[derive(Clone, Copy)]
 pub struct SyncSwept {
     pub table: SyncTable,
     pub answer: SweepAnswer,
 }
 
-#[derive(Drop)]
+#[derive(Clone, Copy)]
 pub struct SyncRemoval {
     pub table: SyncTable,
     pub known: bool,
 }
 
-#[derive(Drop)]
+#[derive(Clone, Copy)]
 pub struct SyncArrival {
     pub table: SyncTable,
     pub answer: Checked,

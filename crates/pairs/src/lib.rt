@@ -1,4 +1,7 @@
 // Document 01, 'Pair tables': what a pair and the answers are. What a table of pairs is, and what each call makes of it, is said in specs/Table.antt.
+
+#![tactic(auto)]
+
 ghost use Rattle.std.specs.Prelude.{◌≡◌};
 ghost use Rattle.rules.specs.Sequence.{sequence_told};
 ghost use Rattle.pairs.specs.Table.{reached, check_sequence, accepted, number_of, values_of};
@@ -7,7 +10,7 @@ use rules::{Cid, SequenceAnswer, sequence_answer, sequence_difference};
 use settings::SourceLimit;
 
 // A pair with what its last arrival left.
-#[derive(Drop)]
+#[derive(Clone, Copy)]
 pub struct Pair {
     pub cid: Cid,
     pub universe: u16,
@@ -16,7 +19,7 @@ pub struct Pair {
 }
 
 // What an arrival answers.
-#[derive(Drop)]
+#[derive(Clone, Copy)]
 pub enum Checked {
     Accepted,
     // Number 4.
@@ -32,7 +35,7 @@ pub enum Checked {
 }
 
 // What a sweep answers.
-#[derive(Drop)]
+#[derive(Clone, Copy)]
 pub enum SweepAnswer {
     Quiet,
     // Number 4.

@@ -24,7 +24,7 @@ use waiting_store::{EntryRows, count_of};
 
 // A pair with its sequence number and its reading.
 #[repr(C)]
-#[derive(Drop)]
+#[derive(Clone, Copy)]
 pub struct PairRead {
     pub hi: u64,
     pub lo: u64,
@@ -34,7 +34,7 @@ pub struct PairRead {
 }
 
 #[repr(C)]
-#[derive(Drop)]
+#[derive(Clone, Copy)]
 pub struct CidRead {
     pub hi: u64,
     pub lo: u64,
@@ -42,7 +42,7 @@ pub struct CidRead {
 
 // Waiting data but for its values; has_cid is false where data of several sources was merged.
 #[repr(C)]
-#[derive(Drop)]
+#[derive(Clone, Copy)]
 pub struct DmxRead {
     pub hi: u64,
     pub lo: u64,
@@ -56,7 +56,7 @@ pub struct DmxRead {
 
 // A part of a lent memory: from start, count entries.
 #[repr(C)]
-#[derive(Drop)]
+#[derive(Clone, Copy)]
 pub struct PartRead {
     pub start: usize,
     pub count: usize,
@@ -64,7 +64,7 @@ pub struct PartRead {
 
 // A discovered source; its name is the first name_length bytes of the names' row at this place.
 #[repr(C)]
-#[derive(Drop)]
+#[derive(Clone, Copy)]
 pub struct SourceRead {
     pub hi: u64,
     pub lo: u64,
@@ -76,7 +76,7 @@ pub struct SourceRead {
 
 // A page: its universes are count entries of the pool, from start.
 #[repr(C)]
-#[derive(Drop)]
+#[derive(Clone, Copy)]
 pub struct PageRead {
     pub number: u64,
     pub count: u64,

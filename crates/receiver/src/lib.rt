@@ -26,7 +26,7 @@ use waiting_calls::Waiting;
 use waiting_store::EntryRows;
 
 // The counts of every table; the tables themselves lie in the lent memory.
-#[derive(Drop)]
+#[derive(Clone, Copy)]
 pub struct Receiver {
     pub sequences: SequenceNumbering,
     pub waiting: Waiting,
@@ -35,31 +35,31 @@ pub struct Receiver {
 }
 
 // What each further call leaves and answers.
-#[derive(Drop)]
+#[derive(Clone, Copy)]
 pub struct AfterPoll {
     pub receiver: Receiver,
     pub answer: PollAnswer,
 }
 
-#[derive(Drop)]
+#[derive(Clone, Copy)]
 pub struct AfterExpiry {
     pub receiver: Receiver,
     pub answer: ExpiryAnswer,
 }
 
-#[derive(Drop)]
+#[derive(Clone, Copy)]
 pub struct AfterListen {
     pub receiver: Receiver,
     pub answer: ListenAnswer,
 }
 
-#[derive(Drop)]
+#[derive(Clone, Copy)]
 pub struct AfterMute {
     pub receiver: Receiver,
     pub answer: MuteAnswer,
 }
 
-#[derive(Drop)]
+#[derive(Clone, Copy)]
 pub struct AfterClear {
     pub receiver: Receiver,
     pub answer: ClearAnswer,

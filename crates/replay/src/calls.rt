@@ -37,7 +37,7 @@ use settings_store::{Layouts, LoadSettingsAnswer};
 use waiting_store::EntryRows;
 
 // What one command leaves for the next: the receiver, its settings, and how much is still to be written out.
-#[derive(Drop)]
+#[derive(Clone, Copy)]
 pub struct Session {
     pub receiver: Receiver,
     pub settings: Settings,

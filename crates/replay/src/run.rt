@@ -294,7 +294,7 @@ fn carry_line(
 }
 
 // What one line leaves for the next.
-#[derive(Drop)]
+#[derive(Clone, Copy)]
 pub struct Turn {
     pub session: Session,
     pub input: Input,

@@ -1,4 +1,7 @@
 // Document 01, 'Number rules': universes, sequence numbers, ages, CIDs.
+
+#![tactic(auto)]
+
 ghost use Rattle.std.specs.Prelude.{◌≡◌, ℕ, ◌-◌, [], ◌∷◌, unsigned_abs};
 ghost use Rattle.rules.specs.Universe.{legal};
 ghost use Rattle.rules.specs.Sequence.{wrapped, signed, difference, judged, number_of, number_at};
@@ -7,15 +10,15 @@ ghost use Rattle.rules.specs.Cid.{cid_of, cid_bytes, same, before};
 ghost use Rattle.rules.specs.Bytes.{number, big_endian, turned_of};
 
 // The sequence number of a data packet.
-#[derive(Drop)]
+#[derive(Clone, Copy)]
 pub struct DataSequence(pub u8);
 
 // The sequence number of a synchronisation packet; the two are counted apart.
-#[derive(Drop)]
+#[derive(Clone, Copy)]
 pub struct SyncSequence(pub u8);
 
 // A source's 16 bytes as two words, most significant first.
-#[derive(Drop)]
+#[derive(Clone, Copy)]
 pub struct Cid {
     pub hi: u64,
     pub lo: u64,
@@ -65,7 +68,7 @@ pub fn magnitude(d: i8) -> u8
 }
 
 // What the sequence rule answers (document 02, F-4).
-#[derive(Drop)]
+#[derive(Clone, Copy)]
 pub enum SequenceAnswer {
     Accepted,
     // Number 21.

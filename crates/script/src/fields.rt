@@ -4,38 +4,38 @@ ghost use Rattle.script.specs.Fields.{with_digit, number_of, small_of, octet_of,
 
 use rules::Cid;
 
-#[derive(Drop)]
+#[derive(Clone, Copy)]
 pub enum Number {
     Of(u64),
     Bad,
 }
 
-#[derive(Drop)]
+#[derive(Clone, Copy)]
 pub enum Small {
     Of(u16),
     Bad,
 }
 
-#[derive(Drop)]
+#[derive(Clone, Copy)]
 pub enum Octet {
     Of(u8),
     Bad,
 }
 
-#[derive(Drop)]
+#[derive(Clone, Copy)]
 pub enum Flag {
     Of(bool),
     Bad,
 }
 
-#[derive(Drop)]
+#[derive(Clone, Copy)]
 pub enum Source {
     Of(Cid),
     Bad,
 }
 
 // How many bytes or numbers a field put into lent memory.
-#[derive(Drop)]
+#[derive(Clone, Copy)]
 pub enum Count {
     Of(usize),
     Bad,

@@ -6,7 +6,7 @@ use crate::fields::field_end;
 use libc::STDIN_FILENO;
 
 // The bytes of the chunk that are still to be read, and whether reading has failed.
-#[derive(Drop)]
+#[derive(Clone, Copy)]
 pub struct Input {
     pub at: usize,
     pub end: usize,
@@ -14,7 +14,7 @@ pub struct Input {
 }
 
 // A line as far as it was read: how many of its bytes are kept, and whether there were more. It is over at its end, or where the input ends.
-#[derive(Drop)]
+#[derive(Clone, Copy)]
 pub struct Line {
     pub input: Input,
     pub length: usize,

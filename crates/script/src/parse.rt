@@ -12,21 +12,21 @@ use settings::MergeChoice;
 use settings_store::Layouts;
 
 // A data packet, its reading and how many values stand in the lent bytes.
-#[derive(Drop)]
+#[derive(Clone, Copy)]
 pub struct DataLine {
     pub now: u64,
     pub packet: DataPacket,
     pub count: usize,
 }
 
-#[derive(Drop)]
+#[derive(Clone, Copy)]
 pub struct SyncLine {
     pub now: u64,
     pub packet: SyncPacket,
 }
 
 // A discovery packet, its reading and how many bytes of name and universes stand in the lent memory.
-#[derive(Drop)]
+#[derive(Clone, Copy)]
 pub struct PageLine {
     pub now: u64,
     pub packet: DiscoveryPacket,
@@ -35,7 +35,7 @@ pub struct PageLine {
 }
 
 // What a setter sets.
-#[derive(Drop)]
+#[derive(Clone, Copy)]
 pub enum Setting {
     Preview(bool),
     AnnounceDiscovery(bool),
@@ -51,7 +51,7 @@ pub enum Setting {
 }
 
 // What is done with the settings as a whole.
-#[derive(Drop)]
+#[derive(Clone, Copy)]
 pub enum SettingsLine {
     // The writer is lent so many bytes.
     Store(u8),
@@ -61,14 +61,14 @@ pub enum SettingsLine {
 }
 
 // What a reset forgets: the sources altogether, or one half.
-#[derive(Drop)]
+#[derive(Clone, Copy)]
 pub enum Reset {
     Sources,
     Pairs,
     Discovery,
 }
 
-#[derive(Drop)]
+#[derive(Clone, Copy)]
 pub enum Command {
     Error,
     Fresh,
@@ -90,7 +90,7 @@ pub enum Command {
 }
 
 // The first word of a line with fields.
-#[derive(Drop)]
+#[derive(Clone, Copy)]
 pub enum SettingWord {
     Preview,
     Discovery,
@@ -99,7 +99,7 @@ pub enum SettingWord {
 }
 
 // Words of the settings record, and of values that its writer refuses.
-#[derive(Drop)]
+#[derive(Clone, Copy)]
 pub enum RecordWord {
     RawLimit,
     RawExpiry,
@@ -107,20 +107,20 @@ pub enum RecordWord {
     Load,
 }
 
-#[derive(Drop)]
+#[derive(Clone, Copy)]
 pub enum UniverseWord {
     Mute,
     Listening,
     Clear,
 }
 
-#[derive(Drop)]
+#[derive(Clone, Copy)]
 pub enum ReadingWord {
     Poll,
     Sweep,
 }
 
-#[derive(Drop)]
+#[derive(Clone, Copy)]
 pub enum Word {
     Unknown,
     Data,
@@ -305,7 +305,7 @@ fn parse_store(field: &[u8]) -> Command
 }
 
 // The layouts that a reader is to know.
-#[derive(Drop)]
+#[derive(Clone, Copy)]
 pub enum Known {
     Of(Layouts),
     Bad,
@@ -351,13 +351,13 @@ fn parse_record(word: RecordWord, fields: &[u8], bytes: &mut [u8]) -> Command
 }
 
 // What a packet's fields have in front: the reading and the CID.
-#[derive(Drop)]
+#[derive(Clone, Copy)]
 pub struct Stamp {
     pub now: u64,
     pub cid: Cid,
 }
 
-#[derive(Drop)]
+#[derive(Clone, Copy)]
 pub enum Stamped {
     Of(Stamp),
     Bad,
@@ -377,7 +377,7 @@ fn parse_stamp(fields: &[u8]) -> Stamped
 }
 
 // The numbers of a data packet.
-#[derive(Drop)]
+#[derive(Clone, Copy)]
 pub struct DataNumbers {
     pub universe: u16,
     pub address: u16,
@@ -386,7 +386,7 @@ pub struct DataNumbers {
     pub options: u8,
 }
 
-#[derive(Drop)]
+#[derive(Clone, Copy)]
 pub enum Numbered {
     Of(DataNumbers),
     Bad,

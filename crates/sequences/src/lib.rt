@@ -10,13 +10,13 @@ use pair_tables::{DataTable, SyncTable};
 use pairs::SweepAnswer;
 use rules::Cid;
 
-#[derive(Drop)]
+#[derive(Clone, Copy)]
 pub struct SequenceNumbering {
     pub data: DataTable,
     pub sync: SyncTable,
 }
 
-#[derive(Drop)]
+#[derive(Clone, Copy)]
 pub struct TimeoutsChecked {
     pub sequences: SequenceNumbering,
     pub answer: SweepAnswer,

@@ -1,22 +1,25 @@
 // Document 01, 'Settings': preview, three announcements, merge choice and source limit; document 02, F-3: the discovery expiry. The setters take a record and hand back the next; those of `settings_lent` change a record lent to them.
+
+#![tactic(auto)]
+
 ghost use Rattle.std.specs.Prelude.{◌≡◌};
 ghost use Rattle.settings.specs.Settings.{fresh, with_preview, with_discovery, with_termination, with_timeout, with_merge, without_limit, limited, in_range, expiring, Keeps, Proper};
 
 // How a packet joins the data that waits for its universe.
-#[derive(Drop)]
+#[derive(Clone, Copy)]
 pub enum MergeChoice {
     DiscardLowestPriorityThenPrevious,
     HtpDmxMerge,
 }
 
 // How many sources may be counted: any number, or 1 to 65,535.
-#[derive(Drop)]
+#[derive(Clone, Copy)]
 pub enum SourceLimit {
     Unlimited,
     AtMost(u16),
 }
 
-#[derive(Drop)]
+#[derive(Clone, Copy)]
 pub struct Settings {
     pub process_preview_data: bool,
     pub announce_source_discovery: bool,
@@ -29,7 +32,7 @@ pub struct Settings {
 }
 
 // What a setter that can refuse answers.
-#[derive(Drop)]
+#[derive(Clone, Copy)]
 pub enum SettingAnswer {
     Set,
     // Number 14: a limit of 0.
@@ -39,7 +42,7 @@ pub enum SettingAnswer {
 }
 
 // What a setter that can refuse leaves and answers.
-#[derive(Drop)]
+#[derive(Clone, Copy)]
 pub struct Adjusted {
     pub settings: Settings,
     pub answer: SettingAnswer,

@@ -199,7 +199,7 @@ fn read_second(fields: &[u8]) -> LoadSettingsAnswer
 }
 
 // A layout that a reader knows, or one that it does not.
-#[derive(Drop)]
+#[derive(Clone, Copy)]
 enum Layout {
     Unknown,
     One,

@@ -1,18 +1,21 @@
 // Document 02, F-6: settings in lent bytes, so that they outlive a power cycle. What a record means stands in specs/; the calls stand in `settings_calls`.
+
+#![tactic(auto)]
+
 use settings::Settings;
 
 // The bytes of a record of layout 2, the only one that is written.
 pub const RECORD_LENGTH: usize = 14;
 
 // The layouts that a reader knows: the first alone, or both.
-#[derive(Drop)]
+#[derive(Clone, Copy)]
 pub enum Layouts {
     First,
     Both,
 }
 
 // What the writer answers.
-#[derive(Drop)]
+#[derive(Clone, Copy)]
 pub enum StoreSettingsAnswer {
     Stored,
     // Number 15: fewer bytes than this are lent.
@@ -24,7 +27,7 @@ pub enum StoreSettingsAnswer {
 }
 
 // What the reader answers. On a stop it shows no setting.
-#[derive(Drop)]
+#[derive(Clone, Copy)]
 pub enum LoadSettingsAnswer {
     Loaded(Settings),
     // Number 22: under three bytes, a wrong mark, or fewer bytes than the layout needs.

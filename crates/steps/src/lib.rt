@@ -30,7 +30,7 @@ use settings::Settings;
 use waiting_store::EntryRows;
 
 // What a step leaves and answers.
-#[derive(Drop)]
+#[derive(Clone, Copy)]
 pub struct Handled {
     pub receiver: Receiver,
     pub answer: StepAnswer,

@@ -12,7 +12,7 @@ use settings::Settings;
 use waiting_calls::Waiting;
 use waiting_store::EntryRows;
 
-#[derive(Drop)]
+#[derive(Clone, Copy)]
 pub struct Polled {
     pub sequences: SequenceNumbering,
     pub waiting: Waiting,

@@ -1,4 +1,7 @@
 // Document 01, 'Waiting data' and 'Released bytes': what the calls over waiting data answer. What they mean stands in specs/.
+
+#![tactic(auto)]
+
 ghost use Rattle.std.specs.Prelude.{◌≡◌};
 ghost use Rattle.waiting.specs.Waiting.{capacity, store_length};
 ghost use Rattle.waiting.specs.Records.{most_bytes};
@@ -6,7 +9,7 @@ ghost use Rattle.waiting.specs.Records.{most_bytes};
 use merge::VALUES;
 
 // What storing answers.
-#[derive(Drop)]
+#[derive(Clone, Copy)]
 pub enum StoreAnswer {
     Stored,
     // Number 8: both packets are lost.
@@ -16,7 +19,7 @@ pub enum StoreAnswer {
 }
 
 // What a call of `store_waiting_data` answers.
-#[derive(Drop)]
+#[derive(Clone, Copy)]
 pub enum StoreCall {
     Taken(StoreAnswer),
     // Number 1: values over 513.
@@ -24,7 +27,7 @@ pub enum StoreCall {
 }
 
 // What a call of `rtrv_waiting_data` answers.
-#[derive(Drop)]
+#[derive(Clone, Copy)]
 pub enum ReleaseAnswer {
     // The records and bytes that the output has.
     Released(usize, usize),

@@ -16,24 +16,24 @@ use waiting_store::{
 };
 
 // How many universes wait; their rows and blocks are lent to every call.
-#[derive(Drop)]
+#[derive(Clone, Copy)]
 pub struct Waiting {
     pub count: usize,
 }
 
-#[derive(Drop)]
+#[derive(Clone, Copy)]
 pub struct Stored {
     pub waiting: Waiting,
     pub answer: StoreCall,
 }
 
-#[derive(Drop)]
+#[derive(Clone, Copy)]
 pub struct Cleared {
     pub waiting: Waiting,
     pub held: bool,
 }
 
-#[derive(Drop)]
+#[derive(Clone, Copy)]
 pub struct Released {
     pub waiting: Waiting,
     pub answer: ReleaseAnswer,

@@ -199,7 +199,7 @@ fn keep_entry(rows: &mut EntryRows, store: &mut [u8], from: usize, to: usize)
 
 // Which entries a pass keeps: those not expired at a reading, or those of other addresses.
 // For `waiting_calls`.
-#[derive(Drop)]
+#[derive(Clone, Copy)]
 pub enum Retain {
     Fresh(u64),
     OtherThan(u16),
@@ -263,7 +263,7 @@ pub fn compact(rows: &mut EntryRows, store: &mut [u8], n: usize, test: Retain) -
 
 // Where a universe stands among the first n entries: at a place, or before one.
 // For `waiting_calls`.
-#[derive(Drop)]
+#[derive(Clone, Copy)]
 pub enum Found {
     At(usize),
     Before(usize),
@@ -387,7 +387,7 @@ fn is_due(d: DmxData, address: u16, reading: u64) -> bool
 
 // How much a release has written.
 // For `waiting_calls`.
-#[derive(Drop)]
+#[derive(Clone, Copy)]
 pub struct Written {
     pub records: usize,
     pub bytes: usize,

@@ -1,0 +1,19 @@
+-- The displaced row is carried along to the end.
+-- Assumes nothing.
+use mathlib.Core.Path.{◌≡◌, sym, ap, ◌∙◌}
+use mathlib.Core.List.{List, ◌++◌, ◌∷◌, []}
+use Prim.Native.Nat.{ℕ, ◌≤◌, ◌-◌}
+use native.Mathlib.Omega.{arith}
+use lib.ListN.{length, take, drop, length-set}
+use lib.Seq.{take-take}
+use Rattle.laws.specs.Place.{insert_at}
+use Rattle.laws.specs.Arrays.{carry, laid}
+use Rattle.discovery.specs.Discovery.{capacity}
+use borrow.Author.Rules.{rules}
+use Rattle.discovery_rows.proofs.rows.insert_page.Goals as goal
+
+pub loop-i-preserved : goal.loop-i-preserved
+loop-i-preserved c =
+    let at-loop = c in
+    let h = at-loop.loop-i in
+    (omega arith, simp length-set h.invariant.1, carry h.pages at-loop.args.count h.carried h.i [] (omega arith) (omega arith) ∙ h.invariant.2)

@@ -1,0 +1,19 @@
+-- The walk so far has passed only rows that fail the test: the place is what is passed and what is left of the walk.
+-- Assumes nothing.
+use mathlib.Core.Path.{◌≡◌, sym, ◌∙◌}
+use mathlib.Core.Bool.{true, false, not}
+use mathlib.Core.List.{[]}
+use Prim.Native.Nat.{◌≤◌, ◌-◌, ◌+◌}
+use native.Mathlib.Omega.{arith}
+use lib.ListN.{take, drop, get_or}
+use Rattle.laws.specs.Place.{prefix}
+use Rattle.laws.specs.Arrays.{prefix_stays, prefix_goes, spent}
+use Rattle.discovery_rows.specs.Rows.{larger}
+use borrow.Author.Rules.{rules}
+use Rattle.discovery_rows.proofs.rows.page_place.Given as goal
+
+abbrev pub invariant-loop-i : goal.invariant-loop-i
+invariant-loop-i l = (l.i ≤ l.count) × (l.i + prefix (λ row. not (larger l.cid l.number row)) (drop l.i (take l.count l.pages)) ≡ prefix (λ row. not (larger l.cid l.number row)) (take l.count l.pages))
+
+abbrev pub decreases-loop-i : goal.decreases-loop-i
+decreases-loop-i l = l.count - l.i

@@ -1,0 +1,10 @@
+-- The sum is the number that the bytes spell, and fits.
+-- Assumes nothing.
+use native.Mathlib.Omega.{arith}
+use Rattle.rules.specs.Bytes.{number}
+use borrow.Author.Rules.{rules}
+use Rattle.fields.proofs.two_bytes.Goals as goal
+
+pub returns : goal.returns
+unfolding number
+returns c = omega arith
