@@ -11,7 +11,7 @@ use Rattle.settings_store.specs.declared.StoreSettingsAnswer.TheVariants as stor
 use Rattle.settings_store.specs.declared.LoadSettingsAnswer.{LoadSettingsAnswer}
 use Rattle.settings_store.specs.declared.LoadSettingsAnswer.TheVariants as loading
 use Rattle.settings_store.specs.Record.{merge_number, merge_of, limit_number, limit_of, zero_limit, store_number, store_values, load_number}
-use Rattle.settings_store.specs.Laws.{merge_back, limit_back, proper_limit}
+use Rattle.settings_store.proofs.Laws.{merge_back, limit_back, proper_limit}
 use Rattle.model.specs.declared.StepAnswer.{StepAnswer}
 use Rattle.model.specs.declared.StepAnswer.TheVariants as says
 use Rattle.model.specs.declared.PollAnswer.{PollAnswer}

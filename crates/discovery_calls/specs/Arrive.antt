@@ -10,7 +10,8 @@ use Rattle.laws.specs.Cases.{split, clash, missing}
 use Rattle.laws.specs.Table.{keep, any}
 use Rattle.laws.specs.Place.{prefix}
 use Rattle.rules.specs.declared.Cid.{Cid}
-use Rattle.rules.specs.Cid.{same, same_refl}
+use Rattle.rules.specs.Cid.{same}
+use Rattle.rules.proofs.CidLaws.{same_refl}
 use Rattle.discovery_calls.specs.declared.Discovery.{Discovery}
 use Rattle.discovery_calls.specs.declared.PageArrived.{PageArrived}
 use Rattle.discovery.specs.declared.PageAnswer.{PageAnswer}
@@ -20,8 +21,8 @@ use Rattle.discovery.specs.declared.PageCall.TheVariants.{Done, TooLong}
 use Rattle.discovery.specs.declared.PageAnswer.TheVariants.{Taken, Listed, PagesFull}
 use Rattle.discovery.specs.Discovery.{Source, Discovered, Announcement, Note, begin, extend, list, told, lookup, drop_source, relisted, updated, numbered, complete, extended, begun, noted, noting, taken, arrived, too_long, page_call, number_of, call_number, pages_held, capacity, overfull, most_name, most_universes}
 use Rattle.discovery_pages.specs.Lent.{Lent, lent_none, lent_then}
-use Rattle.discovery.specs.Laws.{none_lookup, lookup_cid, partial_noting, extended_cid, extended_last}
-use Rattle.discovery.specs.Kept.{dropped_none, count_keep}
+use Rattle.discovery.proofs.Laws.{none_lookup, lookup_cid, partial_noting, extended_cid, extended_last}
+use Rattle.discovery.proofs.KeptLaws.{dropped_none, count_keep}
 use Rattle.discovery_rows.specs.Store.{Head, is_head_of, pages_at, view_of, lookup_pages}
 use Rattle.discovery_calls.specs.Moves.{without, with_source, lookup_head}
 use Rattle.discovery_rows.specs.Rows.{owned, head_of, heads, leaves, amount, in_turn}

@@ -15,8 +15,9 @@ use Rattle.rules.specs.declared.Cid.{Cid}
 use Rattle.rules.specs.Cid.{same}
 use Rattle.discovery_calls.specs.declared.Discovery.{Discovery}
 use Rattle.discovery.specs.Discovery.{Page, Source, Discovered, Announcement, lookup, drop_source, relisted, updated, page_of, extended, begun, extend, list, noting, page_count, pages_held, capacity, Rising, Ordered}
-use Rattle.discovery.specs.Laws.{lookup_none, none_lookup, lookup_cid}
-use Rattle.discovery.specs.Kept.{Fitting, proper_begun, proper_extended, proper_lookup, sorted_added, ordered_noting, length_extended, lookup_extended, pages_of, count_drop, count_append, once_drop, once_append, all_keep, all_append}
+use Rattle.discovery.proofs.Laws.{lookup_none, none_lookup, lookup_cid}
+use Rattle.discovery.specs.Kept.{Fitting, pages_of}
+use Rattle.discovery.proofs.KeptLaws.{proper_begun, proper_extended, proper_lookup, sorted_added, ordered_noting, length_extended, lookup_extended, count_drop, count_append, once_drop, once_append, all_keep, all_append}
 use Rattle.discovery_rows.specs.Store.{Head, Leaf, is_head_of, pages_at, sources_at, view_of, any_sources, lookup_pages, renewed, keep_single}
 use Rattle.discovery_pages.specs.Leaves.{behind, turned}
 use Rattle.discovery_calls.specs.Moves.{with_source, leaf_of, view_with, sound_with, others, listed_head, view_turned, sound_turned, heads_turned, grown, view_extended, sound_extended}

@@ -11,10 +11,11 @@ use Rattle.laws.specs.Cases.{split, clash, missing}
 use Rattle.laws.specs.Table.{keep, any}
 use Rattle.laws.specs.Place.{prefix, insert_at}
 use Rattle.rules.specs.declared.Cid.{Cid}
-use Rattle.rules.specs.Cid.{same, same_refl, same_path}
+use Rattle.rules.specs.Cid.{same}
+use Rattle.rules.proofs.CidLaws.{same_refl, same_path}
 use Rattle.discovery.specs.Discovery.{Page, Source, Discovered, lookup, drop_source, updated, pages_held, capacity, cut_page, cut, ended, Ordered, Proper}
-use Rattle.discovery.specs.Laws.{same_sym, lookup_none}
-use Rattle.discovery.specs.Kept.{once_drop, all_keep, count_keep, once_append, all_append, count_append, ordered_ended, any_append}
+use Rattle.discovery.proofs.Laws.{same_sym, lookup_none}
+use Rattle.discovery.proofs.KeptLaws.{once_drop, all_keep, count_keep, once_append, all_append, count_append, ordered_ended, any_append}
 use Rattle.discovery_rows.specs.Store.{Head, Leaf, owner, is_head_of, held_by, pages_at, source_of, sources_at, view_of, Marked, Housed, Sound, owner_path, owner_self, any_sources, sources_alike, sources_beside, sources_dropped, sources_dropped_other, sources_append, sources_append_other, lookup_pages, renewed, sources_renewed}
 use Rattle.discovery_pages.specs.Leaves.{pages_beside, behind, pages_placed, pages_dropped, pages_none, pages_empty, turned, pages_turned, pages_turned_beside, cut_leaf, pages_cut, pages_cut_beside, held_leaves}
 

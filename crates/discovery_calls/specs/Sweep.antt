@@ -10,11 +10,12 @@ use Rattle.laws.specs.Cases.{split, clash}
 use Rattle.laws.specs.Table.{keep, any}
 use Rattle.laws.specs.Place.{prefix, prefix_stop}
 use Rattle.rules.specs.declared.Cid.{Cid}
-use Rattle.rules.specs.Cid.{same, same_path}
+use Rattle.rules.specs.Cid.{same}
+use Rattle.rules.proofs.CidLaws.{same_path}
 use Rattle.rules.specs.Age.{aged}
 use Rattle.discovery_calls.specs.declared.Discovery.{Discovery}
 use Rattle.discovery.specs.Discovery.{Page, Source, drop_source, current, swept, ended, Once, page_count, capacity}
-use Rattle.discovery.specs.Kept.{dropped_none}
+use Rattle.discovery.proofs.KeptLaws.{dropped_none}
 use Rattle.discovery_rows.specs.Store.{Head, is_head_of, pages_at, source_of, sources_at, view_of, Marked, owner_self, any_sources, prefix_none}
 use Rattle.discovery_pages.specs.Leaves.{cut_leaf}
 use Rattle.discovery_calls.specs.Moves.{view_cut, sound_cut}

@@ -6,15 +6,16 @@ use Rattle.std.proofs.Common.{sym, ap, ◌∙◌, arith}
 use Rattle.std.proofs.Math.Bool.{true, false}
 use mathlib.Core.List.{List, [], ◌∷◌, ◌++◌, map}
 use Prim.Native.Nat.{ℕ, zero, suc, ◌+◌, ◌≤◌, ◌<◌}
-use Rattle.discovery.specs.Kept.{count_least}
+use Rattle.discovery.proofs.KeptLaws.{count_least}
 use borrow.Author.Tests.{eqb-true, eqb-false, leb-true, ltb-true, ltb-false, le-leb, lt-leb, le-ltb}
 use Rattle.laws.specs.Cases.{split, clash}
 use Rattle.laws.specs.Table.{keep, any}
 use Rattle.laws.specs.Place.{prefix, insert_at}
 use Rattle.rules.specs.declared.Cid.{Cid}
-use Rattle.rules.specs.Cid.{same, same_refl}
+use Rattle.rules.specs.Cid.{same}
+use Rattle.rules.proofs.CidLaws.{same_refl}
 use Rattle.discovery.specs.Discovery.{Page, page_count, pages_held, cut_page, Rising}
-use Rattle.discovery.specs.Laws.{same_sym}
+use Rattle.discovery.proofs.Laws.{same_sym}
 use Rattle.discovery_rows.specs.Store.{Head, Leaf, owner, is_head_of, held_by, pages_at, sources_at, view_of, Marked, Housed, Sound, owner_path, owner_self, Single, single_heads}
 
 -- ── one leaf more ──

@@ -12,10 +12,11 @@ use Rattle.laws.specs.Cases.{split, clash, found, missing}
 use Rattle.laws.specs.Table.{keep, any}
 use Rattle.laws.specs.Place.{prefix, remove_at}
 use Rattle.rules.specs.declared.Cid.{Cid}
-use Rattle.rules.specs.Cid.{same, same_refl, same_path}
+use Rattle.rules.specs.Cid.{same}
+use Rattle.rules.proofs.CidLaws.{same_refl, same_path}
 use Rattle.discovery.specs.Discovery.{Page, Source, Discovered, lookup, drop_source, updated, Once, Ordered}
-use Rattle.discovery.specs.Laws.{lookup_cid}
-use Rattle.discovery.specs.Kept.{updated_none}
+use Rattle.discovery.proofs.Laws.{lookup_cid}
+use Rattle.discovery.proofs.KeptLaws.{updated_none}
 
 pub record Head : Type 0 where
   pub mark : ℕ

@@ -6,7 +6,7 @@ use Rattle.std.proofs.Math.Option.{Option}
 use Rattle.laws.specs.Cases.{missing}
 use Rattle.rules.specs.Answer.{first_of}
 use Rattle.settings.specs.declared.Settings.{Settings}
-use Rattle.waiting.specs.Laws.{over_none}
+use Rattle.waiting.proofs.Laws.{over_none}
 use Rattle.waiting_store.specs.Entries.{lent_then}
 use Rattle.discovery_pages.specs.Lent as pool
 use Rattle.arrivals.specs.declared.Short.{Short}

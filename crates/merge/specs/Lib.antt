@@ -2,4 +2,3 @@ pub mod Merge
 pub mod Laws
 pub mod Views
 pub mod Trials
-pub mod Answers

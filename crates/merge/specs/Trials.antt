@@ -8,7 +8,6 @@ use Rattle.rules.specs.Sequence.{difference, judged, number_of}
 use Rattle.rules.specs.Age.{expired}
 use Rattle.merge.specs.declared.SourceCid.TheVariants.{Of}
 use Rattle.merge.specs.Merge.{Dmx, htp_merge, mergeable, same_start, joined, blended, highest}
-
 -- what a row of the table says
 pub data Trial : Type 0 where
   -- last, arriving, their difference: accepted, repeated or late
@@ -94,7 +93,3 @@ trials =
     ∷ merges 100 (0 ∷ 10 ∷ 200 ∷ []) 100 (0 ∷ 50 ∷ []) (0 ∷ 50 ∷ 200 ∷ [])
     ∷ merges 100 (0 ∷ 10 ∷ 200 ∷ []) 101 (0 ∷ 50 ∷ []) (0 ∷ 50 ∷ [])
     ∷ []
-
-pub trial_values : all trials ≡ true
-unfolding equal_z equal_values merged_values htp_merge mergeable same_start joined blended highest sequence_told holds all trials
-trial_values = refl

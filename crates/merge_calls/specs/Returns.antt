@@ -13,7 +13,7 @@ use Rattle.merge.specs.declared.HtpAnswer.{HtpAnswer}
 use Rattle.merge.specs.declared.HtpAnswer.TheVariants as htp
 use Rattle.merge.specs.declared.Choice.TheVariants.{Older, Newer, TooLong}
 use Rattle.merge.specs.Merge.{Dmx, same_start, mergeable, highest, blended, joined, htp_merge, too_long, htp_with, htp_answer, htp_output, choice}
-use Rattle.merge.specs.Laws.{length_highest}
+use Rattle.merge.proofs.Laws.{length_highest}
 
 -- ── the highest values, place by place ──
 -- a place of both lists, where the first is not the longer

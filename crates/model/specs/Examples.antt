@@ -39,15 +39,15 @@ listening_to us = (listen_call us fresh).0
 abbrev Timed : Type 0
 Timed = ℕ × Packet
 
-after : Settings → List Timed → State → State
+unfoldable pub after : Settings → List Timed → State → State
 after S [] s = s
 after S (p ∷ ps) s = after S ps (step enough S p.0 p.1 s).state
 
-numbers : Settings → List Timed → State → List ℕ
+unfoldable pub numbers : Settings → List Timed → State → List ℕ
 numbers S [] s = []
 numbers S (p ∷ ps) s = step_number (step enough S p.0 p.1 s).answer ∷ numbers S ps (step enough S p.0 p.1 s).state
 
-released : Settings → List Timed → State → List (List ℕ)
+unfoldable pub released : Settings → List Timed → State → List (List ℕ)
 released S [] s = []
 released S (p ∷ ps) s = records (step enough S p.0 p.1 s).released ∷ released S ps (step enough S p.0 p.1 s).state
 
@@ -92,23 +92,23 @@ abbrev highest_wins : Settings
 highest_wins = with_merge HtpDmxMerge settings.fresh
 
 -- what stands in each part, as numbers
-waiting_values : State → List (List ℕ)
+unfoldable pub waiting_values : State → List (List ℕ)
 waiting_values s = map (λ (d : Dmx). d.values) s.waiting
 
-sync_universes : State → List ℕ
+unfoldable pub sync_universes : State → List ℕ
 sync_universes s = map (λ (p : Pair). p.universe) s.sync_pairs.pairs
 
-data_sequences : State → List ℕ
+unfoldable pub data_sequences : State → List ℕ
 data_sequences s = map (λ (p : Pair). p.sequence) s.data_pairs.pairs
 
-page_numbers : State → List (List ℕ)
+unfoldable pub page_numbers : State → List (List ℕ)
 page_numbers s = map (λ (x : Source). map (λ (p : Page). p.number) x.pages) s.discovered.listed
 
 -- every example is a computation
-record Pinned : Type 0 where
+pub record Pinned : Type 0 where
   -- ── trial values ──
   -- "From a fresh receiver told to listen to universe 1, a step prints .." (37 bytes)
-  printed :
+  pub printed :
       released settings.fresh
       ((
         1000,
@@ -129,107 +129,107 @@ record Pinned : Type 0 where
       ∷ 0x11 ∷ 0x11 ∷ 0x11 ∷ 0x11 ∷ 0x11 ∷ 0x11 ∷ 0x11 ∷ 0x11 ∷ 0x11 ∷ 0x11 ∷ 0x11 ∷ 0x11 ∷ 0x11 ∷ 0x11 ∷ 0x11 ∷ 0x11
       ∷ 0x00 ∷ 0x00 ∷ 0x00 ∷ 0x00 ∷ 0x00 ∷ 0x00 ∷ 0x03 ∷ 0xE8 ∷ 0x00 ∷ 0x02 ∷ 0x00 ∷ 0xFF ∷ []) ∷ []
   -- "Limit 1, A known: B gets 6 with count 1; A aged 2,500: B accepted."
-  limit :
+  pub limit :
       numbers (with_limit (AtMost 1) settings.fresh)
       ((0, data_packet (data_of 1 1 0 100 0 (0 ∷ []))) ∷ (2499, data_packet (data_of 2 1 0 100 0 (0 ∷ []))) ∷ (2500, data_packet (data_of 2 1 0 100 0 (0 ∷ []))) ∷ [])
       (listening_to (1 ∷ []))
       ≡ 0 ∷ 6 ∷ 0 ∷ []
-  limit_count :
+  pub limit_count :
       step_values []
       (step enough (with_limit (AtMost 1) settings.fresh) 1 (data_packet (data_of 2 1 0 100 0 (0 ∷ [])))
       (after settings.fresh ((0, data_packet (data_of 1 1 0 100 0 (0 ∷ []))) ∷ []) (listening_to (1 ∷ [])))).answer
       ≡ number 1 ∷ []
   -- "Last page 1: pages 0,0,1 never list; 1,0 list."
-  never_lists :
+  pub never_lists :
       numbers (with_discovery true settings.fresh)
       ((0, discovery_packet (page_of 1 0 1 (1 ∷ []))) ∷ (0, discovery_packet (page_of 1 0 1 (1 ∷ []))) ∷ (0, discovery_packet (page_of 1 1 1 (2 ∷ []))) ∷ [])
       fresh
       ≡ 0 ∷ 0 ∷ 0 ∷ []
-  lists :
+  pub lists :
       numbers (with_discovery true settings.fresh)
       ((0, discovery_packet (page_of 1 1 1 (2 ∷ []))) ∷ (0, discovery_packet (page_of 1 0 1 (1 ∷ []))) ∷ [])
       fresh
       ≡ 0 ∷ 9 ∷ []
   -- ── traps ──
   -- a termination comes before the sequence rule: sequence 5 after 5 ends the stream
-  ends_before_sequence :
+  pub ends_before_sequence :
       numbers (with_termination true settings.fresh)
       ((0, data_packet (data_of 1 1 0 100 5 (0 ∷ []))) ∷ (0, data_packet (end_of 1 1 5)) ∷ [])
       (listening_to (1 ∷ []))
       ≡ 0 ∷ 5 ∷ []
   -- a sync pair stays when the data pair is unknown, and goes with a known one
-  sync_pair_stays :
+  pub sync_pair_stays :
       sync_universes
       (after settings.fresh ((0, sync_packet (sync_of 1 7 0)) ∷ (0, data_packet (end_of 1 7 0)) ∷ []) (listening_to (7 ∷ [])))
       ≡ 7 ∷ []
-  sync_pair_goes :
+  pub sync_pair_goes :
       sync_universes
       (after settings.fresh ((0, data_packet (data_of 1 7 0 100 0 (0 ∷ []))) ∷ (0, sync_packet (sync_of 1 7 0)) ∷ (0, data_packet (end_of 1 7 1)) ∷ []) (listening_to (7 ∷ [])))
       ≡ []
   -- a source's own waiting packet is merged, not replaced
-  own_packet_merges :
+  pub own_packet_merges :
       waiting_values
       (after highest_wins ((0, data_packet (data_of 1 1 7 100 0 (0 ∷ 9 ∷ []))) ∷ (0, data_packet (data_of 1 1 7 100 1 (0 ∷ 4 ∷ 5 ∷ []))) ∷ []) (listening_to (1 ∷ [])))
       ≡ (0 ∷ 9 ∷ 5 ∷ []) ∷ []
   -- the first last_page value counts: page 0 of 1, then page 1 of 2
-  first_last_page :
+  pub first_last_page :
       numbers (with_discovery true settings.fresh)
       ((0, discovery_packet (page_of 1 0 1 (1 ∷ []))) ∷ (0, discovery_packet (page_of 1 1 2 (2 ∷ []))) ∷ [])
       fresh
       ≡ 0 ∷ 9 ∷ []
   -- a termination leaves the waiting data
-  waiting_outlives_end :
+  pub waiting_outlives_end :
       waiting_values
       (after settings.fresh ((0, data_packet (data_of 1 1 7 100 0 (0 ∷ 9 ∷ []))) ∷ (0, data_packet (end_of 1 1 1)) ∷ []) (listening_to (1 ∷ [])))
       ≡ (0 ∷ 9 ∷ []) ∷ []
   -- ── further rules ──
   -- a refused sequence leaves what was stored
-  refused_leaves :
+  pub refused_leaves :
       data_sequences
       (after settings.fresh ((0, data_packet (data_of 1 1 0 100 10 (0 ∷ []))) ∷ (0, data_packet (data_of 1 1 0 100 247 (0 ∷ []))) ∷ []) (listening_to (1 ∷ [])))
       ≡ 10 ∷ []
   -- an illegal address gives 2, and the stored sequence stands
-  illegal_address :
+  pub illegal_address :
       numbers settings.fresh
       ((0, data_packet (data_of 1 1 64000 100 0 (0 ∷ []))) ∷ (0, data_packet (data_of 1 1 64000 100 0 (0 ∷ []))) ∷ [])
       (listening_to (1 ∷ []))
       ≡ 2 ∷ 21 ∷ []
   -- document 02, F-4, in both tables: the number again is a repeat, the one before it late; neither renews the reading, so at 2,500 the source is new
-  data_repeats :
+  pub data_repeats :
       numbers settings.fresh
       ((0, data_packet (data_of 1 1 0 100 10 (0 ∷ []))) ∷ (1, data_packet (data_of 1 1 0 100 10 (0 ∷ []))) ∷ (1, data_packet (data_of 1 1 0 100 9 (0 ∷ []))) ∷ (2499, data_packet (data_of 1 1 0 100 10 (0 ∷ []))) ∷ (2500, data_packet (data_of 1 1 0 100 10 (0 ∷ []))) ∷ [])
       (listening_to (1 ∷ []))
       ≡ 0 ∷ 21 ∷ 7 ∷ 21 ∷ 0 ∷ []
-  sync_repeats :
+  pub sync_repeats :
       numbers settings.fresh
       ((0, sync_packet (sync_of 1 1 10)) ∷ (1, sync_packet (sync_of 1 1 10)) ∷ (1, sync_packet (sync_of 1 1 9)) ∷ (2499, sync_packet (sync_of 1 1 10)) ∷ (2500, sync_packet (sync_of 1 1 10)) ∷ [])
       (listening_to (1 ∷ []))
       ≡ 0 ∷ 21 ∷ 7 ∷ 21 ∷ 0 ∷ []
   -- a refused merge gives 8 and loses both
-  refused_merge :
+  pub refused_merge :
       numbers highest_wins
       ((0, data_packet (data_of 1 1 7 100 0 (0 ∷ 9 ∷ []))) ∷ (0, data_packet (data_of 2 1 7 100 0 (1 ∷ 9 ∷ []))) ∷ (0, sync_packet (sync_of 1 7 0)) ∷ [])
       (listening_to (1 ∷ []))
       ≡ 0 ∷ 8 ∷ 0 ∷ []
   -- an announced timeout ends the step; the packet may be offered again
-  announced_timeout :
+  pub announced_timeout :
       numbers (with_timeout true settings.fresh)
       ((0, data_packet (data_of 1 1 0 100 0 (0 ∷ []))) ∷ (2500, data_packet (data_of 2 1 0 100 0 (0 ∷ []))) ∷ (2500, data_packet (data_of 2 1 0 100 0 (0 ∷ []))) ∷ [])
       (listening_to (1 ∷ []))
       ≡ 0 ∷ 4 ∷ 0 ∷ []
   -- pages 0, 5, 1 with last page 1 list, with all three
-  three_pages :
+  pub three_pages :
       page_numbers
       (after settings.fresh ((0, discovery_packet (page_of 1 0 1 [])) ∷ (0, discovery_packet (page_of 1 5 1 [])) ∷ (0, discovery_packet (page_of 1 1 1 [])) ∷ []) fresh)
       ≡ (0 ∷ 1 ∷ 5 ∷ []) ∷ []
   -- two universes under one address are released together: 2 records, 74 bytes
-  two_records :
+  pub two_records :
       step_values []
       (step enough settings.fresh 6 (sync_packet (sync_of 1 7 0))
       (after settings.fresh ((5, data_packet (data_of 1 2 7 100 0 (0 ∷ 1 ∷ []))) ∷ (5, data_packet (data_of 1 1 7 100 0 (0 ∷ 2 ∷ []))) ∷ []) (listening_to (1 ∷ 2 ∷ [])))).answer
       ≡ number 2 ∷ number 74 ∷ []
   -- the second sync finds nothing left
-  released_once :
+  pub released_once :
       released settings.fresh
       ((5, data_packet (data_of 1 1 7 100 0 (0 ∷ []))) ∷ (5, sync_packet (sync_of 1 7 0)) ∷ (5, sync_packet (sync_of 1 7 1)) ∷ [])
       (listening_to (1 ∷ []))
@@ -238,13 +238,13 @@ record Pinned : Type 0 where
         values = 0 ∷ [];
       } ∷ []) ∷ [] ∷ []
   -- an announced termination is told for an unknown pair and a universe that is not listened to
-  end_not_listened : numbers (with_termination true settings.fresh) ((0, data_packet (end_of 1 9 0)) ∷ []) fresh ≡ 5 ∷ []
+  pub end_not_listened : numbers (with_termination true settings.fresh) ((0, data_packet (end_of 1 9 0)) ∷ []) fresh ≡ 5 ∷ []
   -- a universe that is not listened to changes nothing
-  not_listened :
+  pub not_listened :
       data_sequences (after settings.fresh ((0, data_packet (data_of 1 2 0 100 0 (0 ∷ []))) ∷ []) (listening_to (1 ∷ [])))
       ≡ []
   -- ── two desks in one millisecond, and a sync: the same look in either order ──
-  two_desks :
+  pub two_desks :
       released highest_wins
       ((5, data_packet (data_of 1 1 7 100 0 (0 ∷ 10 ∷ 200 ∷ []))) ∷ (5, data_packet (data_of 2 1 7 100 0 (0 ∷ 50 ∷ []))) ∷ (5, sync_packet (sync_of 1 7 0)) ∷ [])
       (listening_to (1 ∷ 7 ∷ []))
@@ -252,7 +252,7 @@ record Pinned : Type 0 where
         head = record { universe = 1; sync_uni = 7; priority = 100; src_cid = Merged; preview = false; recv_timestamp = 5 };
         values = 0 ∷ 50 ∷ 200 ∷ [];
       } ∷ []) ∷ []
-  two_desks_swapped :
+  pub two_desks_swapped :
       released highest_wins
       ((5, data_packet (data_of 2 1 7 100 0 (0 ∷ 50 ∷ []))) ∷ (5, data_packet (data_of 1 1 7 100 0 (0 ∷ 10 ∷ 200 ∷ []))) ∷ (5, sync_packet (sync_of 1 7 0)) ∷ [])
       (listening_to (1 ∷ 7 ∷ []))
@@ -260,39 +260,7 @@ record Pinned : Type 0 where
         head = record { universe = 1; sync_uni = 7; priority = 100; src_cid = Merged; preview = false; recv_timestamp = 5 };
         values = 0 ∷ 50 ∷ 200 ∷ [];
       } ∷ []) ∷ []
-  mutes : muted 64214 (3 ∷ 64214 ∷ []) ≡ (3 ∷ [], muting.Muted)
+  pub mutes : muted 64214 (3 ∷ 64214 ∷ []) ≡ (3 ∷ [], muting.Muted)
   -- "(2, then 3)"
-  mutes_unknown : muted 5 (3 ∷ 64214 ∷ []) ≡ (3 ∷ 64214 ∷ [], muting.UniverseNotRegistered 5)
-  mutes_illegal : muted 0 (3 ∷ 64214 ∷ []) ≡ (3 ∷ 64214 ∷ [], muting.IllegalUniverse 0)
-
-pinned : Pinned
-unfolding after numbers released waiting_values sync_universes data_sequences page_numbers step too_short measured too_long over polled poll poll_sync poll_waiting pairs.sweep pairs.swept pairs.without pairs.lowest pairs.last_noted pairs.noted pairs.told packet_step data_step data_arrival pairs.check pairs.after_sweep pairs.admit pairs.stop pairs.source_stop pairs.listed pairs.full pairs.sequence_stop pairs.settle pairs.recorded if_accepted accepted unsynchronised synchronised heard stored release terminated sync_step sync_arrival synchronise waiting.cleared waiting.stored waiting.joining waiting.merged waiting.released waiting.left same_start mergeable highest blended joined htp_merge preferred discovery_step discovery.arrived discovery.taken discovery.noted discovery.noting discovery.lookup discovery.drop_source discovery.relisted discovery.updated discovery.in_place discovery.sorted discovery.numbered discovery.complete discovery.extended discovery.begun discovery.page_count discovery.ended discovery.cut discovery.cut_page listen_call listen_all illegal joined_by muted find store remove keep any encode records big_endian before_by
-pinned = record {
-  printed = refl;
-  limit = refl;
-  limit_count = refl;
-  never_lists = refl;
-  lists = refl;
-  ends_before_sequence = refl;
-  sync_pair_stays = refl;
-  sync_pair_goes = refl;
-  own_packet_merges = refl;
-  first_last_page = refl;
-  waiting_outlives_end = refl;
-  refused_leaves = refl;
-  illegal_address = refl;
-  data_repeats = refl;
-  sync_repeats = refl;
-  refused_merge = refl;
-  announced_timeout = refl;
-  three_pages = refl;
-  two_records = refl;
-  released_once = refl;
-  end_not_listened = refl;
-  not_listened = refl;
-  two_desks = refl;
-  two_desks_swapped = refl;
-  mutes = refl;
-  mutes_unknown = refl;
-  mutes_illegal = refl;
-}
+  pub mutes_unknown : muted 5 (3 ∷ 64214 ∷ []) ≡ (3 ∷ 64214 ∷ [], muting.UniverseNotRegistered 5)
+  pub mutes_illegal : muted 0 (3 ∷ 64214 ∷ []) ≡ (3 ∷ 64214 ∷ [], muting.IllegalUniverse 0)

@@ -9,10 +9,12 @@ use Rattle.laws.specs.Cases.{split, clash}
 use Rattle.laws.specs.Order.{Order, tri, keyed}
 use Rattle.laws.specs.Table.{keep, any, store, remove, Ascending, other_than, remove_keep}
 use Rattle.rules.specs.declared.Cid.{Cid}
-use Rattle.rules.specs.Cid.{same, before, cid_order, same_refl}
+use Rattle.rules.specs.Cid.{same, before}
+use Rattle.rules.proofs.CidLaws.{cid_order, same_refl}
 use Rattle.pairs.specs.declared.Pair.{Pair}
-use Rattle.pairs.specs.Table.{Key, key_of, key_before, key_order, itself, has, leave}
-use Rattle.pairs.specs.Laws.{has_store, has_remove}
+use Rattle.pairs.specs.Table.{Key, key_of, key_before, itself, has, leave}
+use Rattle.pairs.proofs.TableLaws.{key_order}
+use Rattle.pairs.proofs.Laws.{has_store, has_remove}
 use Rattle.pair_rows.specs.View.{older, lonely}
 
 -- ── a test that no entry passes ──

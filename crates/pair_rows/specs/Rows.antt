@@ -12,7 +12,8 @@ use Rattle.laws.specs.Table.{any, find}
 use Rattle.laws.specs.Place.{place, prefix, absent, absent_end, present, get_d_map}
 use Rattle.laws.specs.Arrays.{next}
 use Rattle.rules.specs.declared.Cid.{Cid}
-use Rattle.rules.specs.Cid.{same, same_refl, same_path}
+use Rattle.rules.specs.Cid.{same}
+use Rattle.rules.proofs.CidLaws.{same_refl, same_path}
 use Rattle.rules.specs.Age.{expired}
 use Rattle.pairs.specs.declared.Pair.{Pair}
 use Rattle.pair_rows.specs.declared.Found.TheVariants.{At, Nothing}

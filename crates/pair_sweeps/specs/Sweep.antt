@@ -15,7 +15,8 @@ use Rattle.laws.specs.Table.{keep, any, Ascending, Under, keep_map, length_keep}
 use Rattle.laws.specs.Place.{prefix, drop_map}
 use Rattle.laws.specs.Arrays.{next, untouched, compact_keep, compact_drop}
 use Rattle.rules.specs.declared.Cid.{Cid}
-use Rattle.rules.specs.Cid.{same, before, cid_order, same_refl, same_not}
+use Rattle.rules.specs.Cid.{same, before}
+use Rattle.rules.proofs.CidLaws.{cid_order, same_refl, same_not}
 use Rattle.rules.specs.Age.{expired}
 use Rattle.pairs.specs.declared.Pair.{Pair}
 use Rattle.pairs.specs.declared.SweepAnswer.{SweepAnswer}

@@ -9,13 +9,15 @@ use borrow.Author.Tests.{lt-leb, le-leb}
 use Rattle.laws.specs.Cases.{split, clash}
 use Rattle.laws.specs.Table.{keep, find, store, Ascending, keep_all, find_key, store_known}
 use Rattle.rules.specs.declared.Cid.{Cid}
-use Rattle.rules.specs.Cid.{before, cid_order}
+use Rattle.rules.specs.Cid.{before}
+use Rattle.rules.proofs.CidLaws.{cid_order}
 use Rattle.rules.specs.Age.{expired}
 use Rattle.settings.specs.declared.SourceLimit.{SourceLimit}
 use Rattle.pairs.specs.declared.Pair.{Pair}
 use Rattle.pairs.specs.declared.Checked.TheVariants.{Accepted, SourcesExceeded, PairsFull}
 use Rattle.pairs.specs.Table.{key_of, key_before, itself, Table, capacity, pair_at, has, listed, live, swept, unknown, full, check_sequence, stopping, sequence_stop, source_stop, reached, stop, recorded, accepted}
-use Rattle.pairs.specs.Laws.{stale, refused_either}
+use Rattle.pairs.specs.Laws.{stale}
+use Rattle.pairs.proofs.Laws.{refused_either}
 use Rattle.pair_rows.specs.View.{lonely}
 use Rattle.pair_tables.specs.View.{pair_stop}
 

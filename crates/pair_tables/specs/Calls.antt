@@ -20,7 +20,7 @@ use Rattle.pairs.specs.declared.Checked.{Checked}
 use Rattle.pairs.specs.declared.Checked.TheVariants.{Accepted, UniverseTimeout, SourcesExceeded, PairsFull}
 use Rattle.pairs.specs.declared.SweepAnswer.TheVariants.{Quiet, TimedOut}
 use Rattle.pairs.specs.Table.{Key, key, key_of, key_before, itself, Table, capacity, pair_at, has, listed, leave, without, live, swept, noted, told, sweep, reached, stop, recorded, admit, check, accepted, Ordered}
-use Rattle.pairs.specs.Laws.{accepted_is, without_unknown, without_known, ordered_without, ordered_swept, noted_none, swept_quiet, admit_stored, admit_stopped, ordered_admit, check_quiet, check_told}
+use Rattle.pairs.proofs.Laws.{accepted_is, without_unknown, without_known, ordered_without, ordered_swept, noted_none, swept_quiet, admit_stored, admit_stopped, ordered_admit, check_quiet, check_told}
 use Rattle.pairs.specs.Answers.{answer_of}
 use Rattle.pair_rows.specs.View.{Rows, cid_of, pairs_of, listed_sources_of, older, lonely, lower, last_reading, note_of}
 use Rattle.pair_tables.specs.View.{table_of, renewed, quiet, reading_noted, Kept, Follows, Unmoved, answered, removal, Renews, pair_stop, PairsKept, Stored, Admitted, RenewsPair}

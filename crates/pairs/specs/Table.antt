@@ -6,7 +6,8 @@ use Rattle.std.proofs.Math.Option.{Option, none, some}
 use Rattle.laws.specs.Order.{Order, ℕOrder, before_by, order_by}
 use Rattle.laws.specs.Table.{keep, any, find, store, remove, Ascending}
 use Rattle.rules.specs.declared.Cid.{Cid}
-use Rattle.rules.specs.Cid.{same, before, cid_order}
+use Rattle.rules.specs.Cid.{same, before}
+use Rattle.rules.proofs.CidLaws.{cid_order}
 use Rattle.rules.specs.Age.{expired}
 use Rattle.rules.specs.declared.SequenceAnswer.{SequenceAnswer}
 use Rattle.rules.specs.declared.SequenceAnswer.TheVariants as sequence
@@ -17,7 +18,6 @@ use Rattle.settings.specs.declared.SourceLimit.TheVariants.{Unlimited, AtMost}
 use Rattle.pairs.specs.declared.Pair.{Pair}
 use Rattle.pairs.specs.declared.Checked.{Checked}
 use Rattle.pairs.specs.declared.Checked.TheVariants.{Accepted, UniverseTimeout, SourcesExceeded, OutOfSequence, PairsFull, Repeated}
-
 -- "A pair is a CID and a universe or address"
 pub record Key : Type 0 where
   pub cid : Cid
@@ -32,9 +32,6 @@ key_of p = key p.cid p.universe
 -- "kept by ascending CID bytes, then universe"
 abbrev pub key_before : Key → Key → Bool
 key_before a b = before_by before ltb (λ (k : Key). k.cid) (λ (k : Key). k.universe) a b
-
-pub key_order : Order key_before
-key_order = order_by before ltb (λ (k : Key). k.cid) (λ (k : Key). k.universe) cid_order ℕOrder (λ a b p q i. record { cid = p i; universe = q i })
 
 abbrev pub itself : Cid → Cid
 itself c = c

@@ -40,7 +40,7 @@ use Rattle.model.specs.declared.ClearAnswer.TheVariants as clearing
 use Rattle.model.specs.Answer.{poll_number, expiry_number, listen_number, mute_number, clear_number}
 use Rattle.model.specs.State.{State, listens}
 use Rattle.model.specs.Step.{short, waiting_bytes, page_bytes, poll, with_data, with_sync, with_waiting, with_listened, with_discovered}
-use Rattle.model.specs.Expiry.{sweep_by}
+use Rattle.model.proofs.ExpiryLaws.{sweep_by}
 use Rattle.model.specs.Calls.{polled_by, poll_call, expiry_call, listen_call, muted, mute_call, clear_call, clear_all_call, reset_pairs_call, reset_discovery_call, reset_call}
 use Rattle.timeouts.specs.View.{Polls}
 use Rattle.listening.specs.Laws.{refused_list}

@@ -11,7 +11,8 @@ use Rattle.laws.specs.Cases.{split, found, clash}
 use Rattle.laws.specs.Order.{ℕOrder, tri, keyed, Order}
 use Rattle.laws.specs.Table.{find, store, Ascending, find_key, store_known, find_under, under_trans, find_store_same, find_store_other, ascending_store, length_store_new}
 use Rattle.rules.specs.declared.Cid.{Cid}
-use Rattle.rules.specs.Cid.{same, before, cid_order, same_path}
+use Rattle.rules.specs.Cid.{same, before}
+use Rattle.rules.proofs.CidLaws.{cid_order, same_path}
 use Rattle.rules.specs.Universe.{legal}
 use Rattle.settings.specs.declared.Settings.{Settings}
 use Rattle.settings.specs.declared.MergeChoice.TheVariants.{HtpDmxMerge}
@@ -22,12 +23,15 @@ use Rattle.pairs.specs.declared.Checked.{Checked}
 use Rattle.pairs.specs.declared.Checked.TheVariants as checked
 use Rattle.pairs.specs.Table as pairs
 use Rattle.pairs.specs.Table.{Table, Key, key, key_of, pair_at, has, recorded, without, source_stop, full, sequence_stop, stop, settle, admit, check, sweep, swept, reached}
-use Rattle.pairs.specs.Laws.{GoodTable, refused_either, source_stop_good, check_quiet, swept_quiet, cids, find_cids, ascending_cids, has_keep, has_store, has_remove, without_pairs, swept_swept}
+use Rattle.pairs.specs.Laws.{GoodTable, cids}
+use Rattle.pairs.proofs.Laws.{refused_either, source_stop_good, check_quiet, swept_quiet, find_cids, ascending_cids, has_keep, has_store, has_remove, without_pairs, swept_swept}
 use Rattle.merge.specs.Merge.{Dmx}
 use Rattle.waiting.specs.declared.StoreAnswer.{StoreAnswer}
 use Rattle.waiting.specs.declared.StoreAnswer.TheVariants as storing
 use Rattle.waiting.specs.Waiting as waiting
-use Rattle.waiting.specs.Laws.{Move, rest, wait, clear, release, move, hold, GoodWaiting, stored_hold}
+use Rattle.waiting.specs.Laws.{Move, rest, wait, clear, release, move, hold}
+use Rattle.waiting.proofs.Laws.{GoodWaiting}
+use Rattle.waiting.proofs.Laws.{stored_hold}
 use Rattle.discovery.specs.declared.PageAnswer.{PageAnswer}
 use Rattle.discovery.specs.Discovery as discovery
 use Rattle.discovery.specs.Discovery.{Discovered, Announcement, Note, noted, noting, lookup}

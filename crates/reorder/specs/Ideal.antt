@@ -14,17 +14,22 @@ use Rattle.settings.specs.declared.Settings.{Settings}
 use Rattle.pairs.specs.declared.Pair.{Pair}
 use Rattle.pairs.specs.declared.Checked.{Checked}
 use Rattle.pairs.specs.Table as pairs
-use Rattle.pairs.specs.Table.{Table, Key, key, key_of, key_before, key_order, pair_at, live, recorded, without, sequence_stop}
-use Rattle.pairs.specs.Laws.{GoodTable, good_recorded, good_without, good_swept, key_apart, pair_at_recorded_other, recorded_recorded, without_recorded, recorded_without, without_without, swept_swept, swept_recorded_again, swept_without_again, live_stored, without_pairs}
+use Rattle.pairs.specs.Table.{Table, Key, key, key_of, key_before, pair_at, live, recorded, without, sequence_stop}
+use Rattle.pairs.proofs.TableLaws.{key_order}
+use Rattle.pairs.specs.Laws.{GoodTable}
+use Rattle.pairs.proofs.Laws.{good_recorded, good_without, good_swept, key_apart, pair_at_recorded_other, recorded_recorded, without_recorded, recorded_without, without_without, swept_swept, swept_recorded_again, swept_without_again, live_stored, without_pairs}
 use Rattle.merge.specs.Merge.{Dmx}
 use Rattle.merge.specs.Laws.{Like}
 use Rattle.waiting.specs.Waiting as waiting
 use Rattle.waiting.specs.Records.{records}
-use Rattle.waiting.specs.Laws.{Move, rest, wait, clear, release, move, GoodWaiting, FitsMove, Apart, FreshMove, good_keep, good_move, move_move, released_move, swept_move}
-use Rattle.waiting.specs.Laws as waiting_laws
+use Rattle.waiting.specs.Laws.{Move, rest, wait, clear, release, move}
+use Rattle.waiting.proofs.Laws.{GoodWaiting, FitsMove, Apart, FreshMove}
+use Rattle.waiting.proofs.Laws.{good_keep, good_move, move_move, released_move, swept_move}
+use Rattle.waiting.proofs.Laws as waiting_laws
 use Rattle.discovery.specs.Discovery as discovery
 use Rattle.discovery.specs.Discovery.{Discovered, Announcement, Source, Note, noted, noting, lookup, ended}
-use Rattle.discovery.specs.Laws.{About, about_noted, partial_noting, partial_other, partial_ended, Alike, alike_refl, alike_trans, alike_noting, alike_ended, noting_noting, noting_ended, ended_ended, alike_sym}
+use Rattle.discovery.specs.Laws.{About, Alike}
+use Rattle.discovery.proofs.Laws.{about_noted, partial_noting, partial_other, partial_ended, alike_refl, alike_trans, alike_noting, alike_ended, noting_noting, noting_ended, ended_ended, alike_sym}
 use Rattle.model.specs.declared.StepAnswer.{StepAnswer}
 use Rattle.model.specs.declared.StepAnswer.TheVariants as says
 use Rattle.model.specs.Packet.{DataPacket, SyncPacket, Packet, data_packet, sync_packet, discovery_packet, sender}

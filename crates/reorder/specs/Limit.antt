@@ -12,13 +12,16 @@ use Rattle.laws.specs.Cases.{split, found, clash}
 use Rattle.laws.specs.Order.{Order, tri, keyed}
 use Rattle.laws.specs.Table.{find, store, remove, keep, Ascending, find_under, under_trans, find_store_same, find_store_other, ascending_store, length_store_new, remove_keep, other_than}
 use Rattle.rules.specs.declared.Cid.{Cid}
-use Rattle.rules.specs.Cid.{before, cid_order, same_path}
+use Rattle.rules.specs.Cid.{before}
+use Rattle.rules.proofs.CidLaws.{cid_order, same_path}
 use Rattle.rules.specs.Cid as cid
 use Rattle.settings.specs.declared.SourceLimit.{SourceLimit}
 use Rattle.settings.specs.declared.SourceLimit.TheVariants.{Unlimited, AtMost}
 use Rattle.pairs.specs.declared.Pair.{Pair}
-use Rattle.pairs.specs.Table.{Table, itself, has, swept, recorded, without, reached, key_before, key_order, key_of}
-use Rattle.pairs.specs.Laws.{GoodTable, cids, find_cids, ascending_cids, has_keep, has_store, without_pairs}
+use Rattle.pairs.specs.Table.{Table, itself, has, swept, recorded, without, reached, key_before, key_of}
+use Rattle.pairs.proofs.TableLaws.{key_order}
+use Rattle.pairs.specs.Laws.{GoodTable, cids}
+use Rattle.pairs.proofs.Laws.{find_cids, ascending_cids, has_keep, has_store, without_pairs}
 use Rattle.reorder.specs.Demand.{InLimit}
 use Rattle.reorder.specs.Ideal.{Change, same, put, drop, change, Local}
 use Rattle.reorder.specs.Agree.{Room}

@@ -13,16 +13,19 @@ use Rattle.laws.specs.Cases.{split, found, clash, missing}
 use Rattle.laws.specs.Order.{ℕOrder, keyed, tri}
 use Rattle.laws.specs.Table.{any, find, store, remove, Ascending, find_store_same, find_store_other, ascending_store, ascending_remove, length_remove, find_remove_other, find_remove_same}
 use Rattle.rules.specs.declared.Cid.{Cid}
-use Rattle.rules.specs.Cid.{before, cid_order}
+use Rattle.rules.specs.Cid.{before}
+use Rattle.rules.proofs.CidLaws.{cid_order}
 use Rattle.settings.specs.declared.Settings.{Settings}
 use Rattle.settings.specs.declared.MergeChoice.TheVariants.{HtpDmxMerge}
 use Rattle.pairs.specs.Table as pairs
 use Rattle.pairs.specs.Table.{Table, has, swept, itself}
-use Rattle.pairs.specs.Laws.{GoodTable, good_empty, swept_swept, swept_quiet}
+use Rattle.pairs.specs.Laws.{GoodTable}
+use Rattle.pairs.proofs.Laws.{good_empty, swept_swept, swept_quiet}
 use Rattle.merge.specs.Merge.{Dmx}
 use Rattle.merge.specs.Laws.{Like}
 use Rattle.waiting.specs.Records.{records}
-use Rattle.waiting.specs.Laws.{GoodWaiting, good_none}
+use Rattle.waiting.proofs.Laws.{GoodWaiting}
+use Rattle.waiting.proofs.Laws.{good_none}
 use Rattle.discovery.specs.Discovery.{lookup}
 use Rattle.model.specs.declared.StepAnswer.{StepAnswer}
 use Rattle.model.specs.declared.StepAnswer.TheVariants as says
@@ -34,7 +37,8 @@ use Rattle.model.specs.State as state
 use Rattle.model.specs.Step as model
 use Rattle.model.specs.Step.{Space, Outcome, outcome, too_short}
 use Rattle.model.specs.Calls.{listen_call, mute_call}
-use Rattle.model.specs.Invariant.{Heard, listen_heard, mute_heard, heard_fresh}
+use Rattle.model.specs.Invariant.{Heard}
+use Rattle.model.proofs.InvariantLaws.{listen_heard, mute_heard, heard_fresh}
 use Rattle.reorder.specs.Demand.{Timed, At, Picks, Reordering, MovedPast, Free, Telling, listen, mute, tell, start, name_of, Answered, answered, outcome_of, end, answers, DataAt, SyncAt, counted, sources_of, InLimit, NoneFull, Asked, NeitherFull, EndAlike, Agreed, Demand3}
 use Rattle.reorder.specs.Reorder.{Commutes, All, at_all, guarded, passes, fails, guarded_commutes, as_ideal}
 use Rattle.reorder.specs.Reorder as reorder

@@ -17,7 +17,7 @@ use Rattle.sequences.specs.Sequences.{numbers, removed}
 use Rattle.sequences.specs.View as sequences
 use Rattle.sequences.specs.Laws.{removed_found}
 use Rattle.waiting_calls.specs.declared.Waiting.{Waiting}
-use Rattle.waiting.specs.Laws.{over_none}
+use Rattle.waiting.proofs.Laws.{over_none}
 use Rattle.waiting_store.specs.Entries.{lent_none}
 use Rattle.listening.specs.declared.Listened.{Listened}
 use Rattle.listening.specs.View as listening

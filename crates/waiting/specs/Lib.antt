@@ -2,4 +2,3 @@ pub mod Waiting
 pub mod Records
 pub mod Answers
 pub mod Laws
-pub mod Limits

@@ -30,7 +30,7 @@ use Rattle.waiting.specs.Waiting.{universe_of, waiting_for, capacity, merged, st
 use Rattle.waiting.specs.Records.{records, most_bytes}
 use Rattle.waiting.specs.Answers.{store_call, store_number_of, store_values_of, store_told, release_call, release_output, release_number_of, release_values_of, release_told}
 use Rattle.waiting_store.specs.Written.{Writing}
-use Rattle.waiting.specs.Laws.{ordered_stored, ordered_cleared, ordered_swept, ordered_left, stored_merged, stored_refused, stored_full, stored_new, merged_universe, store_answer_told, release_answer_told}
+use Rattle.waiting.proofs.Laws.{ordered_stored, ordered_cleared, ordered_swept, ordered_left, stored_merged, stored_refused, stored_full, stored_new, merged_universe, store_answer_told, release_answer_told}
 use Rattle.waiting_store.specs.Entries.{head_of, count_of, entries, nothing, waiting_of, Room, Kept, Lent, lent_none, lent_then, lent_room, kept_ordered, length_waiting, prefix_entries, any_entries, read_entry}
 use Rattle.waiting_store.specs.Posts.{Held, below, Sought}
 use Rattle.waiting_store.specs.Passes.{head_at}

@@ -11,9 +11,10 @@ use Rattle.merge.specs.declared.HtpAnswer.{HtpAnswer}
 use Rattle.merge.specs.declared.HtpAnswer.TheVariants as htp
 use Rattle.merge.specs.declared.Choice.TheVariants.{Older, Newer, TooLong}
 use Rattle.merge.specs.Merge.{Dmx, most_values, joined, htp_merge, preferred, htp_answer, htp_output, choice}
-use Rattle.merge.specs.Laws.{joined_fits}
+use Rattle.merge.proofs.Laws.{joined_fits}
 use Rattle.merge.specs.Views.{dmx}
-use Rattle.merge.specs.Answers.{older_preferred, newer_preferred, choice_fits, htp_fits, htp_roomy, htp_refuses, htp_merges, htp_values}
+use Rattle.merge.proofs.AnswersLaws.{htp_fits, htp_roomy, htp_refuses, htp_merges}
+use Rattle.merge.proofs.AnswersLaws.{older_preferred, newer_preferred, choice_fits, htp_values}
 use Rattle.waiting.specs.Waiting.{merged, held, capacity}
 use Rattle.waiting_store.specs.Entries.{count_of, entries, nothing, Room, lent_none, entry_at}
 use Rattle.waiting_store.specs.Posts.{Changed}

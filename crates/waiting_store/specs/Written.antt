@@ -17,7 +17,7 @@ use Rattle.merge.specs.Merge.{Dmx}
 use Rattle.merge.specs.Views.{dmx}
 use Rattle.waiting.specs.Waiting.{fresh, of_address, released, capacity}
 use Rattle.waiting.specs.Records.{owner, encode, records, over, most_bytes}
-use Rattle.waiting.specs.Laws.{length_encode, records_within, within_keep}
+use Rattle.waiting.proofs.Laws.{length_encode, records_within, within_keep}
 use Rattle.waiting_store.specs.Entries.{entries, Room, within_entries}
 
 -- ── the parts of a record ──

@@ -5,7 +5,8 @@ use Rattle.merge.specs.declared.Choice.{Choice}
 use Rattle.merge.specs.Merge.{Dmx, choice, choice_number_of, choice_values_of, choice_told}
 use Rattle.merge.specs.Views.{dmx}
 use Rattle.merge_calls.specs.Returns.{choice_long, choice_older, choice_newer}
-use Rattle.merge.specs.Answers.{long_older, long_newer, long_neither, choice_answer_told}
+use Rattle.merge.proofs.AnswersLaws.{long_newer, long_neither}
+use Rattle.merge.proofs.AnswersLaws.{long_older, choice_answer_told}
 use Rattle.merge_calls.proofs.discard_lowest_priority_then_previous.Statement.{statement}
 use Rattle.merge_calls.proofs.discard_lowest_priority_then_previous.Tie as tie
 

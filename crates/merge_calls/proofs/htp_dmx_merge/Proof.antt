@@ -8,10 +8,11 @@ use native.Mathlib.Omega.{arith}
 use lib.ListN.{length}
 use Rattle.merge.specs.declared.HtpAnswer.{HtpAnswer}
 use Rattle.merge.specs.Merge.{Dmx, mergeable, too_long, highest, blended, htp_answer, htp_number_of, htp_values_of, htp_told}
-use Rattle.merge.specs.Laws.{highest_comm}
+use Rattle.merge.proofs.Laws.{highest_comm}
 use Rattle.merge.specs.Views.{dmx}
 use Rattle.merge_calls.specs.Returns.{htp_long, htp_refused, htp_short, htp_older, htp_newer, htp_equal}
-use Rattle.merge.specs.Answers.{long_older, long_newer, long_neither, htp_answer_told}
+use Rattle.merge.proofs.AnswersLaws.{long_newer, long_neither}
+use Rattle.merge.proofs.AnswersLaws.{long_older, htp_answer_told}
 use borrow.Author.Rules.{rules}
 use Rattle.merge_calls.proofs.htp_dmx_merge.Statement.{statement}
 use Rattle.merge_calls.proofs.htp_dmx_merge.Tie as tie

@@ -7,7 +7,8 @@ use native.Mathlib.Omega.{arith}
 use Rattle.laws.specs.Table.{find, remove_absent}
 use Rattle.laws.specs.Place.{place}
 use Rattle.rules.specs.declared.Cid.{Cid}
-use Rattle.rules.specs.Cid.{before, cid_order}
+use Rattle.rules.specs.Cid.{before}
+use Rattle.rules.proofs.CidLaws.{cid_order}
 use Rattle.pairs.specs.Table.{itself}
 use Rattle.pair_rows.specs.View.{cid_of, listed_sources_of}
 use Rattle.pair_rows.specs.Stores.{placed_at, placed_nothing, found_inside, rows_removed}

@@ -1,6 +1,6 @@
 -- One law for each return.
 -- Assumes nothing.
-use Rattle.settings_store.specs.Returns.{says_1, says_2, says_2_unknown, says_other}
+use Rattle.settings_store.proofs.ReturnsLaws.{says_1, says_2, says_2_unknown, says_other}
 use borrow.Author.Rules.{rules}
 use Rattle.settings_calls.proofs.layout_of.Statement.{statement}
 use Rattle.settings_calls.proofs.layout_of.Tie as tie

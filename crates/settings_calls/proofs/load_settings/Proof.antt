@@ -8,7 +8,7 @@ use lib.ListN.{drop}
 use lib.Seq.{get_or-drop}
 use Rattle.laws.specs.Parts.{part_rest}
 use Rattle.settings_store.specs.Record.{of_layout}
-use Rattle.settings_store.specs.Returns.{all_bytes, loads_short, loads_unmarked, loads_fields}
+use Rattle.settings_store.proofs.ReturnsLaws.{all_bytes, loads_short, loads_unmarked, loads_fields}
 use Rattle.settings_calls.specs.View.{layout_fields}
 use borrow.Author.Rules.{rules}
 use Rattle.settings_calls.proofs.load_settings.Statement.{statement}

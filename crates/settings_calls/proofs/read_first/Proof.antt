@@ -2,7 +2,7 @@
 -- Assumes nothing.
 use mathlib.Core.Path.{sym, ◌∙◌}
 use native.Mathlib.Omega.{arith}
-use Rattle.settings_store.specs.Returns.{first_short, first_read}
+use Rattle.settings_store.proofs.ReturnsLaws.{first_short, first_read}
 use borrow.Author.Rules.{rules}
 use Rattle.settings_calls.proofs.read_first.Statement.{statement}
 use Rattle.settings_calls.proofs.read_first.Tie as tie

@@ -2,7 +2,7 @@
 -- Assumes nothing.
 use mathlib.Core.Path.{sym, ◌∙◌}
 use native.Mathlib.Omega.{arith}
-use Rattle.settings_store.specs.Returns.{second_short, second_read, second_out}
+use Rattle.settings_store.proofs.ReturnsLaws.{second_short, second_read, second_out}
 use borrow.Author.Rules.{rules}
 use Rattle.settings_calls.proofs.read_second.Statement.{statement}
 use Rattle.settings_calls.proofs.read_second.Tie as tie

@@ -1,7 +1,7 @@
 -- One law for each return.
 -- Assumes nothing.
 use mathlib.Core.Path.{sym, ◌∙◌}
-use Rattle.settings_store.specs.Returns.{with_taken, with_refused}
+use Rattle.settings_store.proofs.ReturnsLaws.{with_taken, with_refused}
 use borrow.Author.Rules.{rules}
 use Rattle.settings_calls.proofs.read_with.Statement.{statement}
 use Rattle.settings_calls.proofs.read_with.Tie as tie

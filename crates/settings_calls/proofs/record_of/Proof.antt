@@ -4,7 +4,7 @@ use mathlib.Core.Path.{sym, ◌∙◌}
 use mathlib.Core.List.{[], ◌∷◌}
 use Prim.Native.Nat.{◌/◌, ◌%◌}
 use Rattle.settings_store.specs.Laws.{Narrow}
-use Rattle.settings_store.specs.Returns.{record_is}
+use Rattle.settings_store.proofs.ReturnsLaws.{record_is}
 use borrow.Author.Rules.{rules}
 use Rattle.settings_calls.proofs.record_of.Statement.{statement}
 use Rattle.settings_calls.proofs.record_of.Tie as tie

@@ -2,7 +2,7 @@
 -- Assumes nothing.
 use mathlib.Core.Path.{sym, ◌∙◌}
 use native.Mathlib.Omega.{arith}
-use Rattle.settings_store.specs.Returns.{stores_short, stores_zero, stores_out, stores_record}
+use Rattle.settings_store.proofs.ReturnsLaws.{stores_short, stores_zero, stores_out, stores_record}
 use borrow.Author.Rules.{rules}
 use Rattle.settings_calls.proofs.store_settings.Statement.{statement}
 use Rattle.settings_calls.proofs.store_settings.Tie as tie

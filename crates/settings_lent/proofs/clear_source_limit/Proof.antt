@@ -34,7 +34,8 @@ use denote.Triple.Spec.{Meets, triple_of}
 use denote.Triple.Table.{entered, cited}
 use denote.Triple.Walked.{Stays, stay_ref, walk_of, AllGo, Goes-ref, Walks, ends_at, walked, walk_Meets}
 use denote.Triple.Clauses.{ensured, lasts}
-use Rattle.settings.specs.Settings.{without_limit, Keeps, unlimited_keeps}
+use Rattle.settings.specs.Settings.{without_limit, Keeps}
+use Rattle.settings.proofs.SettingsLaws.{unlimited_keeps}
 use Rattle.settings.specs.declared.Settings.{Settings}
 use Rattle.settings.specs.contracts.Settings as S
 use Rattle.settings.proofs.Settings.TheLaws as S'

@@ -1,7 +1,8 @@
 -- The walk of `Stored.antt`, with the setter by value and the law that it keeps limit and expiry proper.
 -- Assumes nothing.
 use mathlib.Core.Path.{refl}
-use Rattle.settings.specs.Settings.{with_discovery, discovery_keeps}
+use Rattle.settings.specs.Settings.{with_discovery}
+use Rattle.settings.proofs.SettingsLaws.{discovery_keeps}
 use Rattle.settings_lent.proofs.Stored.{flag, stored}
 use Rattle.settings.proofs.Settings.set_announce_source_discovery.Symbol as by_value
 use Rattle.settings.proofs.Settings.set_announce_source_discovery.Met.{met}

@@ -2,7 +2,8 @@
 -- Assumes nothing.
 use mathlib.Core.Path.{refl}
 use mir.Syntax.{w32}
-use Rattle.settings.specs.Settings.{expiring, expiring_keeps}
+use Rattle.settings.specs.Settings.{expiring}
+use Rattle.settings.proofs.SettingsLaws.{expiring_keeps}
 use Rattle.settings_lent.proofs.Stored.{unsigned}
 use Rattle.settings_lent.proofs.Answered.{answered}
 use Rattle.settings.proofs.Settings.set_discovery_expiry.Symbol as by_value

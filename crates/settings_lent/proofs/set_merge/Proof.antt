@@ -1,7 +1,8 @@
 -- The walk of `Stored.antt`, with the setter by value and the law that it keeps limit and expiry proper.
 -- Assumes nothing.
 use mathlib.Core.Path.{refl}
-use Rattle.settings.specs.Settings.{with_merge, merge_keeps}
+use Rattle.settings.specs.Settings.{with_merge}
+use Rattle.settings.proofs.SettingsLaws.{merge_keeps}
 use Rattle.settings_lent.proofs.Stored.{choice, stored}
 use Rattle.settings.proofs.Settings.set_merge.Symbol as by_value
 use Rattle.settings.proofs.Settings.set_merge.Met.{met}

@@ -3,7 +3,8 @@
 use mathlib.Core.Path.{refl}
 use native.Mathlib.Omega.{arith}
 use mir.Syntax.{w16}
-use Rattle.settings.specs.Settings.{limited, limited_keeps}
+use Rattle.settings.specs.Settings.{limited}
+use Rattle.settings.proofs.SettingsLaws.{limited_keeps}
 use Rattle.settings_lent.proofs.Stored.{unsigned}
 use Rattle.settings_lent.proofs.Answered.{answered}
 use Rattle.settings.proofs.Settings.set_source_limit.Symbol as by_value

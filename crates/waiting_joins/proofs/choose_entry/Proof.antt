@@ -8,7 +8,7 @@ use lib.Seq.{take-length}
 use Rattle.merge.specs.declared.Choice.TheVariants.{Newer}
 use Rattle.merge.specs.Merge.{Dmx, choice, most_values}
 use Rattle.merge.specs.Views.{dmx}
-use Rattle.merge.specs.Answers.{newer_chosen}
+use Rattle.merge.proofs.AnswersLaws.{newer_chosen}
 use Rattle.waiting_store.specs.Entries.{entries, read_entry}
 use Rattle.waiting_store.specs.Posts.{Changed}
 use Rattle.waiting_joins.specs.Joins.{entry, chose_older, chose_newer, chose_long}

@@ -3,7 +3,8 @@
 use mathlib.Core.Path.{◌∙◌}
 use mathlib.Core.List.{◌++◌}
 use native.Mathlib.Nat.{div-one}
-use Rattle.rules.specs.Bytes.{big_endian, turned_back}
+use Rattle.rules.specs.Bytes.{big_endian}
+use Rattle.rules.proofs.BytesLaws.{turned_back}
 use borrow.Author.Rules.{rules}
 use Rattle.waiting_store.proofs.back_bytes.Statement.{statement}
 use Rattle.waiting_store.proofs.back_bytes.Tie as tie

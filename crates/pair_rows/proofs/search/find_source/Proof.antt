@@ -4,7 +4,8 @@ use mathlib.Core.Path.{◌≡◌, sym, ap, ◌∙◌}
 use native.Mathlib.Omega.{arith}
 use mathlib.Core.List.{[]}
 use Rattle.rules.specs.declared.Cid.{Cid}
-use Rattle.rules.specs.Cid.{same, before, cid_order, same_path}
+use Rattle.rules.specs.Cid.{same, before}
+use Rattle.rules.proofs.CidLaws.{cid_order, same_path}
 use lib.ListN.{get_or}
 use Rattle.pairs.specs.Table.{itself}
 use Rattle.pair_rows.specs.View.{cid_of}

@@ -1,7 +1,8 @@
 -- The limit is reached, the list is full, or the pairs decide; with a stored pair its CID joins the list.
 -- Assumes nothing.
 use mathlib.Core.Path.{sym, ◌∙◌}
-use Rattle.rules.specs.Cid.{before, cid_order}
+use Rattle.rules.specs.Cid.{before}
+use Rattle.rules.proofs.CidLaws.{cid_order}
 use Rattle.pairs.specs.Table.{itself}
 use Rattle.pair_rows.specs.View.{cid_of}
 use Rattle.pair_rows.specs.Stores.{rows_inserted}

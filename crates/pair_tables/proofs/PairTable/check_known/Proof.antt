@@ -6,7 +6,8 @@ use Prim.Native.Nat.{◌<◌}
 use native.Mathlib.Omega.{arith}
 use Rattle.laws.specs.Place.{place}
 use Rattle.pairs.specs.declared.Pair.{Pair}
-use Rattle.pairs.specs.Table.{key_of, key_before, key_order, pair_at, stopping}
+use Rattle.pairs.specs.Table.{key_of, key_before, pair_at, stopping}
+use Rattle.pairs.proofs.TableLaws.{key_order}
 use Rattle.pair_rows.specs.View.{pair_of, pairs_of}
 use Rattle.pair_rows.specs.Stores.{placed_at, found_inside, found_read}
 use Rattle.pair_tables.specs.View.{pair_stop}

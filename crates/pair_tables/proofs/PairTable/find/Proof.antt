@@ -5,7 +5,8 @@ use native.Mathlib.Omega.{arith}
 use mathlib.Core.List.{[]}
 use lib.ListN.{get_or}
 use Rattle.pairs.specs.declared.Pair.{Pair}
-use Rattle.pairs.specs.Table.{key, key_of, key_before, key_order}
+use Rattle.pairs.specs.Table.{key, key_of, key_before}
+use Rattle.pairs.proofs.TableLaws.{key_order}
 use Rattle.pair_rows.specs.View.{pair_of, same_key}
 use Rattle.pair_rows.specs.Rows.{same_key_path, same_key_not, placed_hit, placed_miss, placed_end}
 use borrow.Author.Rules.{rules}

@@ -10,7 +10,8 @@ use Rattle.laws.specs.Table.{remove}
 use Rattle.laws.specs.Place.{place}
 use Rattle.rules.specs.Cid.{before}
 use Rattle.pairs.specs.declared.Pair.{Pair}
-use Rattle.pairs.specs.Table.{Key, key, key_of, key_before, key_order, itself, pair_at, has, capacity}
+use Rattle.pairs.specs.Table.{Key, key, key_of, key_before, itself, pair_at, has, capacity}
+use Rattle.pairs.proofs.TableLaws.{key_order}
 use Rattle.pair_rows.specs.View.{pair_of, pairs_of, listed_sources_of}
 use Rattle.pair_rows.specs.Stores.{placed_at, placed_nothing, found_inside, rows_removed}
 use Rattle.pair_tables.specs.Calls.{removal_none, removal_some}

@@ -7,7 +7,8 @@ use native.Mathlib.Omega.{arith}
 use lib.ListN.{set, length-set}
 use Rattle.laws.specs.Place.{place}
 use Rattle.pairs.specs.declared.Pair.{Pair}
-use Rattle.pairs.specs.Table.{key_of, key_before, key_order, pair_at}
+use Rattle.pairs.specs.Table.{key_of, key_before, pair_at}
+use Rattle.pairs.proofs.TableLaws.{key_order}
 use Rattle.pair_rows.specs.View.{pair_of, pairs_of}
 use Rattle.pair_rows.specs.Stores.{placed_at, found_inside, rows_replaced}
 use Rattle.pair_tables.specs.declared.PairTable.{PairTable}

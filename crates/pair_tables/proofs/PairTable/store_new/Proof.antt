@@ -2,7 +2,8 @@
 -- Assumes nothing.
 use Prim.Native.Nat.{◌+◌}
 use native.Mathlib.Omega.{arith}
-use Rattle.pairs.specs.Table.{key_of, key_before, key_order}
+use Rattle.pairs.specs.Table.{key_of, key_before}
+use Rattle.pairs.proofs.TableLaws.{key_order}
 use Rattle.pair_rows.specs.View.{pair_of}
 use Rattle.pair_rows.specs.Stores.{rows_inserted}
 use Rattle.pair_tables.specs.Calls.{stored_as}

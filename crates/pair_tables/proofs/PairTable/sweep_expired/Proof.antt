@@ -7,7 +7,8 @@ use Prim.Native.Nat.{◌≤◌}
 use native.Mathlib.Omega.{arith}
 use Rattle.laws.specs.Table.{Ascending, ascending_keep}
 use Rattle.pairs.specs.declared.Pair.{Pair}
-use Rattle.pairs.specs.Table.{key_of, key_before, key_order, live, capacity}
+use Rattle.pairs.specs.Table.{key_of, key_before, live, capacity}
+use Rattle.pairs.proofs.TableLaws.{key_order}
 use Rattle.pair_rows.specs.View.{pairs_of}
 use Rattle.pair_tables.specs.Calls.{sweep_idle, sweep_renewed, sweep_done, rows_stay, rows_busy}
 use borrow.Author.Rules.{rules}

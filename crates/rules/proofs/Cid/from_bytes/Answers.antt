@@ -1,7 +1,8 @@
 -- Each word is that of eight bytes, which are the array's.
 -- Assumes nothing.
 use Rattle.std.proofs.Common.{◌≡◌, ℕ, List, [], ◌∷◌, length, get_or, drop, sym, ap, ◌∙◌, arith, length-drop, get_or-drop, take_all, rules}
-use Rattle.rules.specs.Bytes.{number, eight}
+use Rattle.rules.specs.Bytes.{number}
+use Rattle.rules.proofs.BytesLaws.{eight}
 use Rattle.rules.proofs.Cid.from_bytes.Goals as goal
 
 -- the last eight of sixteen

@@ -1,0 +1,4 @@
+pub mod ExpiryLaws
+pub mod KeptLaws
+pub mod Laws
+pub mod TrialsLaws

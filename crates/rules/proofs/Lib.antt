@@ -1,0 +1,3 @@
+pub mod BytesLaws
+pub mod CidLaws
+pub mod SequenceLaws
