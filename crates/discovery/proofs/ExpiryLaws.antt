@@ -1,12 +1,12 @@
 -- Document 02, F-3: "The rule for discovery age in document 01 changes to that setting, also for a partial source."
 -- Assumes nothing.
-use Rattle.std.specs.Prelude.{◌≡◌, refl, not, List, [], ◌∷◌, ℕ, ◌≤◌, ◌<◌}
+use Rattle.std.specs.Prelude.{◌≡◌, refl, List, [], ◌∷◌, ℕ, ◌≤◌, ◌<◌}
 use Rattle.std.proofs.Common.{◌∙◌, arith, le-leb}
 use Rattle.std.proofs.Math.Option.{some, none}
 use Rattle.std.proofs.lemmas.Bool.{lt-leb}
 use Rattle.laws.specs.Table.{keep}
 use Rattle.rules.specs.declared.Cid.{Cid}
-use Rattle.rules.specs.Age.{age, expired}
+use Rattle.rules.specs.Age.{age}
 use Rattle.discovery.specs.Discovery.{Source, Discovered, nothing_known, lookup, current, swept, Ordered}
 use Rattle.discovery.proofs.Laws.{partial_swept, listed_swept}
 use Rattle.discovery.specs.Expiry.{was_swept}

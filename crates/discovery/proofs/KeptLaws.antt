@@ -3,7 +3,7 @@
 use Rattle.std.specs.Prelude.{◌≡◌, Bool, true, false, not, cond, ◌&&◌, ℕ, zero, suc, ◌+◌, ◌≤◌, ◌<◌, leb, eqb, length}
 use Rattle.std.proofs.Math.Path.{refl}
 use Rattle.std.proofs.Common.{sym, ap, ◌∙◌, arith, length-append, leb-true, leb-false, le-leb}
-use Rattle.std.proofs.Math.Option.{Option, none, some}
+use Rattle.std.proofs.Math.Option.{none, some}
 use mathlib.Core.List.{List, [], ◌∷◌, ◌++◌, map}
 use Rattle.std.proofs.lemmas.List.{length-map}
 use Rattle.std.proofs.lemmas.Bool.{lt-leb}
@@ -13,7 +13,7 @@ use Rattle.laws.specs.Place.{prefix, insert_at}
 use Rattle.rules.specs.declared.Cid.{Cid}
 use Rattle.rules.specs.Cid.{same}
 use Rattle.rules.proofs.CidLaws.{same_refl, same_path}
-use Rattle.discovery.specs.Discovery.{Page, Source, Discovered, Announcement, lookup, drop_source, relisted, updated, in_place, sorted, complete, page_of, extended, begun, Note, begin, extend, list, noted, noting, page_count, pages_held, capacity, most_universes, most_name, taken, overfull, arrived, cut_page, cut, ended, current, swept, Once, Rising, ProperPage, ProperPages, Proper, AllProper, Ordered}
+use Rattle.discovery.specs.Discovery.{Page, Source, Discovered, Announcement, lookup, drop_source, relisted, updated, in_place, sorted, complete, page_of, extended, begun, Note, begin, extend, list, noted, noting, page_count, pages_held, capacity, most_universes, taken, overfull, arrived, cut_page, cut, ended, current, swept, Once, Rising, ProperPage, ProperPages, Proper, AllProper, Ordered}
 use Rattle.discovery.proofs.Laws.{same_sym, lookup_cid, none_lookup, lookup_drop, any_keep}
 use Rattle.discovery.specs.Kept.{Fitting, Least, Notable, noted_source, pages_of}
 

@@ -1,10 +1,10 @@
 -- Document 01 by numbers: which pages list a source whose last page is 1; what of the first page is kept; the order of listing; the sweep; 13 and 1.
 -- Assumes nothing.
-use Rattle.std.specs.Prelude.{◌≡◌, refl, List, [], ◌∷◌, map, ℕ, ◌*◌, length}
+use Rattle.std.specs.Prelude.{◌≡◌, refl, [], ◌∷◌, map, ℕ, ◌*◌, length}
 use Rattle.std.proofs.Math.Option.{none, some}
 use Rattle.laws.specs.Table.{keep, any}
 use Rattle.discovery.specs.declared.PageAnswer.TheVariants.{PagesFull}
-use Rattle.discovery.specs.Discovery.{pool_length, Source, Discovered, Announcement, nothing_known, lookup, drop_source, relisted, updated, in_place, sorted, numbered, complete, extended, begun, noted, noting, page_count, pages_held, taken, arrived, too_long, swept}
+use Rattle.discovery.specs.Discovery.{pool_length, Discovered, Announcement, nothing_known, lookup, drop_source, relisted, updated, in_place, sorted, numbered, complete, extended, begun, noted, noting, page_count, pages_held, taken, arrived, too_long, swept}
 use Rattle.discovery.specs.Trials.{arrivals, listed_pages, listings, of_1000, partial_pages, renamed}
 
 -- "Last page 1: pages 0,0,1 never list"

@@ -1,19 +1,11 @@
 -- What every call keeps: each CID once in each list, pages in order, at least one page a source, at most 64 pages.
 -- Assumes nothing.
-use Rattle.std.specs.Prelude.{◌≡◌, Bool, true, false, not, cond, ◌&&◌, ℕ, zero, suc, ◌+◌, ◌≤◌, ◌<◌, leb, eqb, length}
-use Rattle.std.proofs.Math.Path.{refl}
-use Rattle.std.proofs.Common.{sym, ap, ◌∙◌, arith, length-append, leb-true, leb-false, le-leb}
+use Rattle.std.specs.Prelude.{◌≡◌, false, not, ℕ, suc, ◌≤◌, leb, length}
 use Rattle.std.proofs.Math.Option.{Option, none, some}
-use mathlib.Core.List.{List, [], ◌∷◌, ◌++◌, map}
-use Rattle.std.proofs.lemmas.List.{length-map}
-use Rattle.std.proofs.lemmas.Bool.{lt-leb}
-use Rattle.laws.specs.Cases.{split, clash, found, missing}
-use Rattle.laws.specs.Table.{keep, any, length_keep, keep_all}
-use Rattle.laws.specs.Place.{prefix, insert_at}
-use Rattle.rules.specs.declared.Cid.{Cid}
-use Rattle.rules.specs.Cid.{same}
-use Rattle.rules.proofs.CidLaws.{same_refl, same_path}
-use Rattle.discovery.specs.Discovery.{Page, Source, Discovered, Announcement, lookup, drop_source, relisted, updated, in_place, sorted, complete, page_of, extended, begun, Note, begin, extend, list, noted, noting, page_count, pages_held, capacity, most_universes, most_name, taken, overfull, arrived, cut_page, cut, ended, current, swept, Once, Rising, ProperPage, ProperPages, Proper, AllProper, Ordered}
+use mathlib.Core.List.{List}
+use Rattle.laws.specs.Table.{any}
+use Rattle.discovery.specs.Discovery.{Page, Source, Discovered, Announcement, lookup, Note, begin, extend, list, most_universes, most_name}
+
 -- no page of the list has a smaller number
 abbrev pub Least : ℕ → List Page → Type 0
 Least k ps = any (λ q. not (leb k q.number)) ps ≡ false

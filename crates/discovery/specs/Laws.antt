@@ -1,15 +1,11 @@
 -- Laws of the definitions: each source by itself, what every call keeps, and calls about different sources in either order.
 -- Assumes nothing.
-use Rattle.std.specs.Prelude.{◌≡◌, refl, ◌≢◌, Bool, true, false, cond, ◌&&◌, List, [], ◌∷◌, ◌++◌, map, ℕ, eqb}
-use Rattle.std.proofs.Common.{sym, ◌∙◌}
-use Rattle.std.proofs.Math.Path.{ap}
+use Rattle.std.specs.Prelude.{◌≡◌, cond, ℕ}
 use Rattle.std.proofs.Math.Option.{Option, none, some}
-use Rattle.laws.specs.Cases.{split, clash, found, missing}
-use Rattle.laws.specs.Table.{keep, any, pass}
 use Rattle.rules.specs.declared.Cid.{Cid}
 use Rattle.rules.specs.Cid.{same}
-use Rattle.rules.proofs.CidLaws.{same_refl, same_path, same_not}
-use Rattle.discovery.specs.Discovery.{Source, Discovered, Announcement, lookup, drop_source, relisted, updated, complete, extended, begun, Note, begin, extend, list, noted, noting, told, taken, cut, ended, current, swept, Once, Ordered}
+use Rattle.discovery.specs.Discovery.{Source, Discovered, lookup, Note, begin, extend, list, cut}
+
 -- ── lookup after each operation ──
 -- the first of two
 abbrev pub either : Option Source → Option Source → Option Source

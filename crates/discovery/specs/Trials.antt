@@ -1,10 +1,8 @@
 -- Document 01 by numbers: which pages list a source whose last page is 1; what of the first page is kept; the order of listing; the sweep; 13 and 1.
 -- Assumes nothing.
-use Rattle.std.specs.Prelude.{◌≡◌, refl, List, [], ◌∷◌, map, ℕ, ◌*◌, length}
-use Rattle.std.proofs.Math.Option.{none, some}
-use Rattle.laws.specs.Table.{keep, any}
-use Rattle.discovery.specs.declared.PageAnswer.TheVariants.{PagesFull}
-use Rattle.discovery.specs.Discovery.{pool_length, Source, Discovered, Announcement, nothing_known, lookup, drop_source, relisted, updated, in_place, sorted, numbered, complete, extended, begun, noted, noting, page_count, pages_held, taken, arrived, too_long, swept}
+use Rattle.std.specs.Prelude.{List, [], ◌∷◌, map, ℕ}
+use Rattle.discovery.specs.Discovery.{Source, Discovered, Announcement, nothing_known, arrived}
+
 -- pages of one source, in the order of their arrival, at the reading 0
 unfoldable pub arrivals : ℕ → List ℕ → Discovered → Discovered
 arrivals last [] d = d

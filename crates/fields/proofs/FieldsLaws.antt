@@ -1,7 +1,7 @@
 -- Fields one after the other, for any list of them: each is a number of so many bytes, most significant first, and has a test that its value passes.
 -- Document 02, F-6: "The facts on fields are shown for a field list in general, then used for both layouts."
 -- Assumes nothing.
-use Rattle.std.specs.Prelude.{◌≡◌, refl, Bool, true, cond, List, [], ◌∷◌, ◌++◌, map, ℕ, suc, ◌+◌, ◌^◌, ◌≤◌, ◌<◌, ltb, take, drop}
+use Rattle.std.specs.Prelude.{◌≡◌, refl, true, cond, List, [], ◌∷◌, ◌++◌, map, ℕ, suc, ◌+◌, ◌≤◌, ◌<◌, ltb, take, drop}
 use Rattle.std.proofs.Common.{sym, ap, ◌∙◌, append_assoc, arith, mod-eq_of_lt, length-take, length-drop, take-add, length-take-le, drop-drop, ltb-true, ltb-false, lt-ltb, le-ltb}
 use Rattle.std.proofs.Math.ListN.{length, length-append}
 use Rattle.std.proofs.Math.Seq.{take_at, drop_at}

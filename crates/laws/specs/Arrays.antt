@@ -1,8 +1,8 @@
 -- What a loop over an array does to the part of it in use, `take n a`: one law for each kind of turn. d is what the code's read gives past the end.
 -- Assumes nothing.
-use Rattle.std.specs.Prelude.{◌≡◌, refl, Bool, true, false, cond, List, [], ◌∷◌, ◌++◌, ltb, take, drop, get_or, set}
+use Rattle.std.specs.Prelude.{◌≡◌, Bool, true, false, List, [], ◌∷◌, ◌++◌, ltb, take, drop, get_or, set}
 use Rattle.std.proofs.Common.{sym, ap, ◌∙◌, length-take, drop_of_length-le, drop-cons, get_or-take, ltb-true, ltb-false}
-use Prim.Native.Nat.{ℕ, zero, suc, ◌+◌, ◌≤◌, ◌<◌, min}
+use Prim.Native.Nat.{ℕ, suc, ◌+◌, ◌≤◌, ◌<◌, min}
 use native.Mathlib.Omega.{arith}
 use Rattle.std.proofs.Math.Numerals.{add-one}
 use Rattle.std.proofs.Math.ListN.{length}

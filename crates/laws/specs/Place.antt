@@ -2,13 +2,13 @@
 -- They hold of any list, in order or not.
 -- Assumes nothing.
 use Rattle.std.proofs.Math.Path.{◌≡◌, refl}
-use Rattle.std.proofs.Common.{sym, ap, ◌∙◌, length-append, length-take, length-drop}
+use Rattle.std.proofs.Common.{ap, ◌∙◌, length-append, length-take, length-drop}
 use Rattle.std.specs.Prelude.{◌≢◌, Bool, true, false, cond, length, take, drop, get_or, set}
-use Rattle.std.proofs.Math.Option.{Option, none, some}
-use mathlib.Core.List.{List, [], ◌∷◌, ◌++◌, map, append-nil}
+use Rattle.std.proofs.Math.Option.{none, some}
+use mathlib.Core.List.{List, [], ◌∷◌, ◌++◌, map}
 use Prim.Native.Nat.{ℕ, zero, suc, ◌+◌, ◌≤◌, ◌<◌}
 use native.Mathlib.Omega.{arith}
-use Rattle.laws.specs.Cases.{split, clash}
+use Rattle.laws.specs.Cases.{split}
 use Rattle.laws.specs.Order.{Order, tri, beyond}
 use Rattle.laws.specs.Table.{find, store, remove}
 

@@ -1,17 +1,9 @@
 -- Laws of merging: what merging by highest value keeps, and that packets of one reading may be merged in either order.
 -- Assumes nothing.
-use Rattle.std.specs.Prelude.{◌≡◌, ◌⊎◌, Bool, true, false, ◌||◌, List, [], ◌∷◌, ltb, length}
-use Rattle.std.proofs.Math.Path.{refl, sym}
-use Rattle.std.proofs.Common.{◌∙◌, inl, inr}
-use Rattle.std.proofs.Math.Option.{some}
-use Rattle.std.proofs.Math.Bool.{or_comm}
-use Prim.Native.Nat.{ℕ, ◌≤◌, max}
-use native.Mathlib.Omega.{arith}
-use Rattle.std.proofs.Math.Nat.{max_comm}
-use borrow.Author.Tests.{eq-eqb}
-use Rattle.laws.specs.Cases.{split}
-use Rattle.laws.specs.Order.{ℕOrder, tri, asym}
-use Rattle.merge.specs.Merge.{Dmx, same_start, mergeable, highest, blended, joined, htp_merge, preferred, most_values}
+use Rattle.std.specs.Prelude.{◌≡◌, List, ◌∷◌}
+use Prim.Native.Nat.{ℕ}
+use Rattle.merge.specs.Merge.{Dmx}
+
 -- ── the merge, in either order ──
 -- packets of one universe, address and reading
 pub record Paired (p q : Dmx) : Type 0 where

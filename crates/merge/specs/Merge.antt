@@ -1,11 +1,10 @@
 -- Document 01, 'Merging'.
 -- Assumes nothing.
-use Rattle.std.specs.Prelude.{◌≡◌, Bool, true, false, not, cond, ◌&&◌, ◌||◌, List, [], ◌∷◌, ◌++◌, ℕ, ◌≤◌, max, ltb, leb, eqb, length, drop}
+use Rattle.std.specs.Prelude.{Bool, false, not, cond, ◌&&◌, ◌||◌, List, [], ◌∷◌, ◌++◌, ℕ, max, ltb, eqb, length, drop}
 use Rattle.std.proofs.Math.Option.{Option, none, some}
 use Rattle.rules.specs.Answer.{Value, number}
 use Rattle.merge.specs.declared.DmxData.{DmxData}
-use Rattle.merge.specs.declared.SourceCid.{SourceCid}
-use Rattle.merge.specs.declared.SourceCid.TheVariants.{Merged, Of}
+use Rattle.merge.specs.declared.SourceCid.TheVariants.{Merged}
 use Rattle.merge.specs.declared.HtpAnswer.{HtpAnswer}
 use Rattle.merge.specs.declared.HtpAnswer.TheVariants as htp
 use Rattle.merge.specs.declared.Choice.{Choice}

@@ -1,13 +1,14 @@
 -- Document 01, 'Trial values', those marked *: one table, and one computed check over it.
 -- Assumes nothing.
-use Rattle.std.specs.Prelude.{◌≡◌, refl, Bool, true, false, not, ◌&&◌, List, [], ◌∷◌, ℕ, eqb, ℤ, pos, neg_ℤ}
+use Rattle.std.specs.Prelude.{Bool, true, false, not, ◌&&◌, List, [], ◌∷◌, ℕ, eqb, ℤ, pos, neg_ℤ}
 use Rattle.std.proofs.Math.Option.{Option, none, some}
 use Rattle.std.specs.Int.Signed.{le_z}
 use Rattle.rules.specs.Universe.{legal}
 use Rattle.rules.specs.Sequence.{difference, judged, number_of}
 use Rattle.rules.specs.Age.{expired}
 use Rattle.merge.specs.declared.SourceCid.TheVariants.{Of}
-use Rattle.merge.specs.Merge.{Dmx, htp_merge, mergeable, same_start, joined, blended, highest}
+use Rattle.merge.specs.Merge.{Dmx, htp_merge}
+
 -- what a row of the table says
 pub data Trial : Type 0 where
   -- last, arriving, their difference: accepted, repeated or late

@@ -1,30 +1,17 @@
 -- Computed examples that pin the definitions down: document 01's trial values that concern steps, its traps, and two desks with a sync.
 -- Assumes nothing.
-use Rattle.std.specs.Prelude.{◌≡◌, refl, Bool, true, false, List, [], ◌∷◌, ◌++◌, map, ℕ, length}
-use Rattle.std.proofs.Math.Option.{Option, none, some}
+use Rattle.std.specs.Prelude.{refl}
 use Rattle.laws.specs.Order.{before_by}
 use Rattle.laws.specs.Table.{keep, any, find, store, remove}
-use Rattle.rules.specs.declared.Cid.{Cid}
 use Rattle.rules.specs.Bytes.{big_endian}
-use Rattle.rules.specs.Answer.{Value, number, source}
-use Rattle.settings.specs.declared.Settings.{Settings}
-use Rattle.settings.specs.declared.MergeChoice.TheVariants.{HtpDmxMerge}
-use Rattle.settings.specs.declared.SourceLimit.TheVariants.{AtMost}
-use Rattle.settings.specs.Settings.{with_termination, with_merge, with_limit, with_discovery, with_timeout}
-use Rattle.settings.specs.Settings as settings
 use Rattle.pairs.specs.Table as pairs
-use Rattle.pairs.specs.declared.Pair.{Pair}
-use Rattle.merge.specs.declared.SourceCid.TheVariants.{Merged, Of}
-use Rattle.merge.specs.Merge.{Dmx, same_start, mergeable, highest, blended, joined, htp_merge, preferred}
+use Rattle.merge.specs.Merge.{same_start, mergeable, highest, blended, joined, htp_merge, preferred}
 use Rattle.waiting.specs.Waiting as waiting
 use Rattle.waiting.specs.Records.{encode, records}
 use Rattle.discovery.specs.Discovery as discovery
 use Rattle.discovery.specs.Discovery.{Announcement, Source, Page}
-use Rattle.model.specs.declared.MuteAnswer.TheVariants as muting
-use Rattle.model.specs.Answer.{step_number, step_values}
-use Rattle.model.specs.Packet.{DataPacket, SyncPacket, Packet, data_packet, sync_packet, discovery_packet, over, too_long}
-use Rattle.model.specs.State.{State, fresh}
-use Rattle.model.specs.Step.{Outcome, Space, illegal, joined_by, listen_all, too_short, poll_waiting, poll_sync, poll, if_accepted, release, terminated, unsynchronised, stored, heard, synchronised, accepted, data_arrival, data_step, synchronise, sync_arrival, sync_step, discovery_step, packet_step, polled, measured, step}
+use Rattle.model.specs.Packet.{over, too_long}
+use Rattle.model.specs.Step.{illegal, joined_by, listen_all, too_short, poll_waiting, poll_sync, poll, if_accepted, release, terminated, unsynchronised, stored, heard, synchronised, accepted, data_arrival, data_step, synchronise, sync_arrival, sync_step, discovery_step, packet_step, polled, measured, step}
 use Rattle.model.specs.Calls.{listen_call, muted}
 use Rattle.model.specs.Examples.{Pinned, after, data_sequences, numbers, page_numbers, released, sync_universes, waiting_values}
 

@@ -16,13 +16,11 @@ use Rattle.discovery.proofs.ExpiryLaws.{swept_0}
 use Rattle.discovery.specs.declared.PageAnswer.{PageAnswer}
 use Rattle.discovery.specs.declared.PageAnswer.TheVariants as paging
 use Rattle.model.specs.declared.StepAnswer.{StepAnswer}
-use Rattle.model.specs.declared.ExpiryAnswer.{ExpiryAnswer}
 use Rattle.model.specs.declared.ExpiryAnswer.TheVariants as expiry
 use Rattle.model.specs.Packet.{Packet, data_packet, sync_packet, discovery_packet, over, too_long}
 use Rattle.model.specs.State.{State, fresh}
 use Rattle.model.specs.Step.{Space, outcome, short, waiting_bytes, page_bytes, too_short, poll_waiting, poll_sync, poll, stored, synchronised, accepted, data_arrival, data_step, sync_arrival, sync_step, listed, discovery_step, packet_step, polled, measured, step, with_discovered}
-use Rattle.model.specs.Examples.{enough}
-use Rattle.model.specs.Calls.{polled_by, poll_call, expiry_call, Call, on_packet, on_expiry, call}
+use Rattle.model.specs.Calls.{polled_by, poll_call, expiry_call, Call, call}
 use Rattle.model.specs.Expiry.{heard_every_10000, was_expiry_call}
 
 -- ── the sweep by what the settings hold, in the setter's range or not ──

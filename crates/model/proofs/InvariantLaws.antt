@@ -1,15 +1,15 @@
 -- What every list of calls from a fresh receiver keeps: tables in order and within their counts, each listed CID with a pair, each CID once in
 -- each discovery list, at most 64 waiting, 64 pages, 1,024 pairs and 1,024 listened universes, all of them legal.
 -- Assumes nothing.
-use Rattle.std.specs.Prelude.{◌≡◌, ◌≢◌, Bool, true, false, cond, ◌&&◌, ℕ, ◌≤◌, ◌<◌, ltb, leb, eqb, length}
+use Rattle.std.specs.Prelude.{◌≡◌, ◌≢◌, Bool, true, false, cond, ◌&&◌, ℕ, ◌≤◌, ltb, eqb, length}
 use Rattle.std.proofs.Math.Path.{refl, subst}
-use Rattle.std.proofs.Common.{sym, ap, ◌∙◌, arith, ltb-false}
+use Rattle.std.proofs.Common.{sym, arith, ltb-false}
 use Rattle.std.proofs.Math.Option.{Option, none, some}
 use Rattle.std.proofs.Math.Bool.{not}
 use mathlib.Core.List.{List, [], ◌∷◌}
 use Rattle.laws.specs.Cases.{split, found, clash, missing}
 use Rattle.laws.specs.Order.{ℕOrder, keyed, tri}
-use Rattle.laws.specs.Table.{any, find, store, remove, Ascending, find_store_other, ascending_store, ascending_remove, length_remove, find_remove_other, find_remove_same}
+use Rattle.laws.specs.Table.{find, store, remove, Ascending, find_store_other, ascending_store, ascending_remove, length_remove, find_remove_other, find_remove_same}
 use Rattle.rules.specs.Universe.{legal}
 use Rattle.settings.specs.declared.Settings.{Settings}
 use Rattle.pairs.specs.declared.Pair.{Pair}

@@ -1,9 +1,7 @@
 -- Computed examples of listening.
 -- Assumes nothing.
-use Rattle.std.specs.Prelude.{◌≡◌, refl, List, [], ◌∷◌, ℕ, zero, suc}
+use Rattle.std.specs.Prelude.{refl}
 use Rattle.laws.specs.Table.{find, store}
-use Rattle.model.specs.declared.ListenAnswer.TheVariants as listen
-use Rattle.model.specs.State.{fresh}
 use Rattle.model.specs.Step.{illegal, joined_by, listen_all}
 use Rattle.model.specs.ListenExamples.{Pinned, from}
 

@@ -3,7 +3,6 @@
 use Rattle.std.specs.Prelude.{◌≡◌, refl, true, false, [], ◌∷◌, pos}
 use Rattle.laws.specs.Order.{before_by}
 use Rattle.laws.specs.Table.{keep, any, find, store, remove}
-use Rattle.rules.specs.declared.Cid.{Cid}
 use Rattle.rules.specs.Bytes.{big_endian}
 use Rattle.settings.specs.Settings as settings
 use Rattle.pairs.specs.Table as pairs
@@ -17,9 +16,9 @@ use Rattle.model.specs.declared.ExpiryAnswer.TheVariants as expiry
 use Rattle.model.specs.declared.ListenAnswer.TheVariants as listen
 use Rattle.model.specs.declared.MuteAnswer.TheVariants as muting
 use Rattle.model.specs.declared.ClearAnswer.TheVariants as clearing
-use Rattle.model.specs.Packet.{DataPacket, data_packet, over, too_long}
-use Rattle.model.specs.State.{State, fresh}
-use Rattle.model.specs.Step.{Space, illegal, joined_by, listen_all, too_short, poll_waiting, poll_sync, poll, if_accepted, release, unsynchronised, accepted, data_arrival, data_step, packet_step, polled, measured, step}
+use Rattle.model.specs.Packet.{data_packet, over, too_long}
+use Rattle.model.specs.State.{fresh}
+use Rattle.model.specs.Step.{illegal, joined_by, listen_all, too_short, poll_waiting, poll_sync, poll, if_accepted, release, unsynchronised, accepted, data_arrival, data_step, packet_step, polled, measured, step}
 use Rattle.model.specs.Examples.{enough}
 use Rattle.model.specs.Calls.{poll_call, polled_by, expiry_call, listen_call, muted, mute_call, clear_call, clear_all_call, reset_pairs_call, reset_discovery_call, reset_call}
 use Rattle.model.specs.Calls.{on_packet, on_poll, on_expiry, on_listen, on_mute, on_ask, on_clear, on_clear_all, on_reset_pairs, on_reset_discovery, on_reset, call}

@@ -7,7 +7,6 @@ use Rattle.std.proofs.Math.Bool.{not}
 use Rattle.std.proofs.Math.Option.{Option, none, some}
 use Rattle.std.proofs.Common.{arith}
 use Rattle.laws.specs.Cases.{found, cond_map}
-use Rattle.rules.specs.declared.Cid.{Cid}
 use Rattle.settings.specs.declared.Settings.{Settings}
 use Rattle.pairs.specs.declared.Checked.{Checked}
 use Rattle.pairs.specs.declared.Checked.TheVariants as checked
@@ -30,10 +29,10 @@ use Rattle.model.specs.declared.ListenAnswer.{ListenAnswer}
 use Rattle.model.specs.declared.ListenAnswer.TheVariants as listening
 use Rattle.model.specs.declared.MuteAnswer.TheVariants as muting
 use Rattle.model.specs.declared.ClearAnswer.TheVariants as clearing
-use Rattle.model.specs.Answer.{step_number, step_values, poll_number, expiry_number, listen_number, mute_number, clear_number}
+use Rattle.model.specs.Answer.{step_number, step_values}
 use Rattle.model.specs.Packet.{DataPacket, SyncPacket, Packet, data_packet, sync_packet, discovery_packet, too_long}
 use Rattle.model.specs.State.{State, fresh, listens}
-use Rattle.model.specs.Step.{Space, Outcome, with_data, with_sync, with_waiting, with_listened, with_discovered, listen_all, too_short, poll, data_pair, dmx, sync_pair, stopped, if_accepted, release, terminated, unsynchronised, kept, stored, heard, synchronised, accepted, data_arrival, data_step, synchronise, sync_arrival, sync_step, listed, discovery_step, packet_step, polled, measured, step}
+use Rattle.model.specs.Step.{Space, Outcome, with_data, with_sync, with_waiting, with_listened, with_discovered, listen_all, too_short, poll, data_pair, dmx, sync_pair, stopped, if_accepted, release, unsynchronised, kept, stored, heard, synchronised, accepted, data_arrival, data_step, synchronise, sync_arrival, sync_step, listed, discovery_step, packet_step, polled, measured, step}
 use Rattle.model.specs.Calls.{Call, on_packet, on_poll, on_expiry, on_listen, on_mute, on_ask, on_clear, on_clear_all, on_reset_pairs, on_reset_discovery, on_reset, call, run}
 use Rattle.model.specs.Calls.{Reply, of_packet, of_poll, of_expiry, of_listen, of_mute, of_ask, of_clear, of_clear_all, of_reset_pairs, of_reset_discovery, of_reset, reply, replies}
 use Rattle.model.specs.Invariant.{Kept}

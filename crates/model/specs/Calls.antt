@@ -1,6 +1,6 @@
 -- Document 01, 'Further calls'; lists of calls, and what they reply (document 02, F-11).
 -- Assumes nothing.
-use Rattle.std.specs.Prelude.{◌≡◌, Bool, true, false, not, cond, List, [], ◌∷◌, ℕ, ltb}
+use Rattle.std.specs.Prelude.{Bool, cond, List, [], ◌∷◌, ℕ, ltb}
 use Rattle.std.proofs.Math.Option.{Option, none, some}
 use Rattle.laws.specs.Table.{remove}
 use Rattle.rules.specs.Universe.{legal}
@@ -20,7 +20,7 @@ use Rattle.model.specs.declared.MuteAnswer.TheVariants as muting
 use Rattle.model.specs.declared.ClearAnswer.{ClearAnswer}
 use Rattle.model.specs.declared.ClearAnswer.TheVariants as clearing
 use Rattle.model.specs.Packet.{Packet}
-use Rattle.model.specs.State.{State, itself, listens, fresh}
+use Rattle.model.specs.State.{State, itself, listens}
 use Rattle.model.specs.Step.{Space, short, waiting_bytes, page_bytes, poll, step, listen_all, with_data, with_sync, with_waiting, with_listened, with_discovered}
 
 -- "poll": a call tests the stores that it is lent, as a step does; waiting is the length of the waiting values

@@ -1,10 +1,9 @@
 -- Computed examples of listening.
 -- Assumes nothing.
-use Rattle.std.specs.Prelude.{◌≡◌, refl, List, [], ◌∷◌, ℕ, zero, suc}
-use Rattle.laws.specs.Table.{find, store}
+use Rattle.std.specs.Prelude.{◌≡◌, List, [], ◌∷◌, ℕ, zero, suc}
 use Rattle.model.specs.declared.ListenAnswer.TheVariants as listen
 use Rattle.model.specs.State.{fresh}
-use Rattle.model.specs.Step.{illegal, joined_by, listen_all}
+use Rattle.model.specs.Step.{listen_all}
 
 -- n universes from u on
 unfoldable pub from : ℕ → ℕ → List ℕ

@@ -1,6 +1,6 @@
 -- The packets that a step takes, with the parts that the caller lends.
 -- Assumes nothing.
-use Rattle.std.specs.Prelude.{Bool, true, false, cond, List, [], ℕ, ltb, length}
+use Rattle.std.specs.Prelude.{Bool, cond, List, ℕ, ltb, length}
 use Rattle.std.proofs.Math.Option.{Option, none, some}
 use Rattle.rules.specs.declared.Cid.{Cid}
 use Rattle.rules.specs.Answer.{first_of}

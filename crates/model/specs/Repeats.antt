@@ -1,23 +1,15 @@
 -- Document 02, F-4, of the whole receiver: a repeat renews neither sequence number nor reading, in the data table and in the sync table, so a
 -- source that only repeats itself expires, whatever others send and whatever else is called.
 -- Assumes nothing.
-use Rattle.std.specs.Prelude.{◌≡◌, Bool, true, false, ◌&&◌, ℕ, eqb}
-use Rattle.std.proofs.Common.{sym, ◌∙◌}
-use Rattle.std.proofs.Math.Bool.{not}
-use Rattle.std.proofs.Math.Option.{Option, none, some}
+use Rattle.std.specs.Prelude.{◌≡◌, Bool, true, false, ℕ}
 use mathlib.Core.List.{List, [], ◌∷◌}
-use Rattle.laws.specs.Cases.{clash, found}
-use Rattle.rules.specs.Age.{expired}
 use Rattle.settings.specs.declared.Settings.{Settings}
 use Rattle.pairs.specs.declared.Pair.{Pair}
 use Rattle.pairs.specs.Table as pairs
-use Rattle.pairs.proofs.Laws.{pair_at_without_other}
-use Rattle.pairs.specs.Repeats.{Stands}
-use Rattle.pairs.proofs.RepeatsLaws.{sweep_live, swept_expired, check_repeated}
-use Rattle.model.specs.Packet.{DataPacket, SyncPacket, Packet, data_packet, sync_packet, discovery_packet, too_long}
-use Rattle.model.specs.State.{State, listens}
-use Rattle.model.specs.Step.{Outcome, too_short, short, waiting_bytes, page_bytes, poll_waiting, poll_sync, poll, data_pair, sync_pair, known, release, terminated, unsynchronised, stored, synchronised, accepted, data_arrival, data_step, synchronise, sync_arrival, sync_step, discovery_step, packet_step, polled, measured, step}
-use Rattle.model.specs.Calls.{poll_call, expiry_call, listen_call, mute_call, clear_call, clear_all_call, reset_discovery_call, Call, on_packet, on_poll, on_expiry, on_listen, on_mute, on_ask, on_clear, on_clear_all, on_reset_pairs, on_reset_discovery, on_reset, call, run}
+use Rattle.model.specs.Packet.{DataPacket, SyncPacket, Packet, data_packet, sync_packet, discovery_packet}
+use Rattle.model.specs.State.{State}
+use Rattle.model.specs.Step.{data_pair, sync_pair, terminated}
+use Rattle.model.specs.Calls.{Call, on_packet, on_poll, on_expiry, on_listen, on_mute, on_ask, on_clear, on_clear_all, on_reset_pairs, on_reset_discovery, on_reset}
 use Rattle.model.specs.Invariant.{Kept}
 
 -- ── what may come while pair q only repeats itself ──

@@ -1,29 +1,8 @@
 -- A computed example of what calls reply: one call of each kind, two of them stopped.
 -- Assumes nothing.
-use Rattle.std.specs.Prelude.{◌≡◌, refl, true, false, [], ◌∷◌, pos}
-use Rattle.laws.specs.Order.{before_by}
-use Rattle.laws.specs.Table.{keep, any, find, store, remove}
+use Rattle.std.specs.Prelude.{false, [], ◌∷◌}
 use Rattle.rules.specs.declared.Cid.{Cid}
-use Rattle.rules.specs.Bytes.{big_endian}
-use Rattle.settings.specs.Settings as settings
-use Rattle.pairs.specs.Table as pairs
-use Rattle.merge.specs.declared.SourceCid.TheVariants.{Of}
-use Rattle.waiting.specs.Waiting as waiting
-use Rattle.waiting.specs.Records.{encode, records}
-use Rattle.discovery.specs.Discovery as discovery
-use Rattle.model.specs.declared.StepAnswer.TheVariants as says
-use Rattle.model.specs.declared.PollAnswer.TheVariants as polling
-use Rattle.model.specs.declared.ExpiryAnswer.TheVariants as expiry
-use Rattle.model.specs.declared.ListenAnswer.TheVariants as listen
-use Rattle.model.specs.declared.MuteAnswer.TheVariants as muting
-use Rattle.model.specs.declared.ClearAnswer.TheVariants as clearing
-use Rattle.model.specs.Packet.{DataPacket, data_packet, over, too_long}
-use Rattle.model.specs.State.{State, fresh}
-use Rattle.model.specs.Step.{Space, illegal, joined_by, listen_all, too_short, poll_waiting, poll_sync, poll, if_accepted, release, unsynchronised, accepted, data_arrival, data_step, packet_step, polled, measured, step}
-use Rattle.model.specs.Examples.{enough}
-use Rattle.model.specs.Calls.{poll_call, polled_by, expiry_call, listen_call, muted, mute_call, clear_call, clear_all_call, reset_pairs_call, reset_discovery_call, reset_call}
-use Rattle.model.specs.Calls.{on_packet, on_poll, on_expiry, on_listen, on_mute, on_ask, on_clear, on_clear_all, on_reset_pairs, on_reset_discovery, on_reset, call}
-use Rattle.model.specs.Calls.{of_packet, of_poll, of_expiry, of_listen, of_mute, of_ask, of_clear, of_clear_all, of_reset_pairs, of_reset_discovery, of_reset, reply, replies}
+use Rattle.model.specs.Packet.{DataPacket}
 
 abbrev pub desk : Cid
 desk = record { hi = 0; lo = 1 }

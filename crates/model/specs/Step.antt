@@ -1,9 +1,8 @@
 -- Document 01, 'The receiver': the step on a packet, rule by rule.
 -- Assumes nothing.
-use Rattle.std.specs.Prelude.{◌≡◌, Bool, true, false, not, cond, ◌&&◌, List, [], ◌∷◌, ℕ, ◌+◌, ltb, leb, eqb, length}
+use Rattle.std.specs.Prelude.{Bool, true, false, not, cond, ◌&&◌, List, [], ◌∷◌, ℕ, ◌+◌, ltb, eqb, length}
 use Rattle.std.proofs.Math.Option.{Option, none, some}
 use Rattle.laws.specs.Table.{store}
-use Rattle.rules.specs.declared.Cid.{Cid}
 use Rattle.rules.specs.Universe.{legal}
 use Rattle.rules.specs.Answer.{first_of}
 use Rattle.settings.specs.declared.Settings.{Settings}
@@ -11,7 +10,6 @@ use Rattle.pairs.specs.Table as pairs
 use Rattle.pairs.specs.declared.Pair.{Pair}
 use Rattle.pairs.specs.declared.Checked.{Checked}
 use Rattle.pairs.specs.declared.Checked.TheVariants as checked
-use Rattle.merge.specs.declared.DmxData.{DmxData}
 use Rattle.merge.specs.declared.SourceCid.TheVariants.{Of}
 use Rattle.merge.specs.Merge.{Dmx}
 use Rattle.waiting.specs.Waiting as waiting

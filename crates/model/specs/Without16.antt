@@ -1,41 +1,14 @@
 -- Document 02, F-11: "Show that from a fresh receiver, after every list of calls, each CID counted as a source has a pair in that table, and then
 -- remove 16 and the branch that gave it. The number is not used again. From a fresh receiver all later answers are those of the receiver with the branch".
 -- Assumes nothing.
-use Rattle.std.specs.Prelude.{◌≡◌, ◌≢◌, Bool, cond, ◌&&◌, List, [], ◌∷◌, map, ℕ, eqb}
-use Rattle.std.proofs.Math.Path.{refl, ap}
-use Rattle.std.proofs.Math.Bool.{not}
-use Rattle.std.proofs.Math.Option.{Option, none, some}
-use Rattle.std.proofs.Common.{arith}
-use Rattle.laws.specs.Cases.{found, cond_map}
+use Rattle.std.specs.Prelude.{◌≡◌, ℕ}
 use Rattle.rules.specs.declared.Cid.{Cid}
-use Rattle.settings.specs.declared.Settings.{Settings}
-use Rattle.pairs.specs.declared.Checked.{Checked}
-use Rattle.pairs.specs.declared.Checked.TheVariants as checked
 use Rattle.pairs.specs.Table as pairs
-use Rattle.pairs.specs.Laws as pair_laws
-use Rattle.pairs.specs.Without16 as arrivals
-use Rattle.merge.specs.Merge.{Dmx}
-use Rattle.waiting.specs.Waiting as waiting
-use Rattle.waiting.specs.declared.StoreAnswer.{StoreAnswer}
-use Rattle.waiting.specs.declared.StoreAnswer.TheVariants as storing
-use Rattle.discovery.specs.Discovery as discovery
-use Rattle.discovery.specs.declared.PageAnswer.{PageAnswer}
-use Rattle.discovery.specs.declared.PageAnswer.TheVariants as paging
 use Rattle.model.specs.declared.StepAnswer.{StepAnswer}
 use Rattle.model.specs.declared.StepAnswer.TheVariants as says
-use Rattle.model.specs.declared.PollAnswer.TheVariants as polling
-use Rattle.model.specs.declared.ExpiryAnswer.TheVariants as expiry
-use Rattle.model.specs.declared.ListenAnswer.{ListenAnswer}
-use Rattle.model.specs.declared.ListenAnswer.TheVariants as listening
-use Rattle.model.specs.declared.MuteAnswer.TheVariants as muting
-use Rattle.model.specs.declared.ClearAnswer.TheVariants as clearing
-use Rattle.model.specs.Answer.{step_number, step_values, poll_number, expiry_number, listen_number, mute_number, clear_number}
-use Rattle.model.specs.Packet.{DataPacket, SyncPacket, Packet, data_packet, sync_packet, discovery_packet, too_long}
-use Rattle.model.specs.State.{State, fresh, listens}
-use Rattle.model.specs.Step.{Space, Outcome, with_data, with_sync, with_waiting, with_listened, with_discovered, listen_all, too_short, poll, data_pair, dmx, sync_pair, stopped, if_accepted, release, terminated, unsynchronised, kept, stored, heard, synchronised, accepted, data_arrival, data_step, synchronise, sync_arrival, sync_step, listed, discovery_step, packet_step, polled, measured, step}
-use Rattle.model.specs.Calls.{Call, on_packet, on_poll, on_expiry, on_listen, on_mute, on_ask, on_clear, on_clear_all, on_reset_pairs, on_reset_discovery, on_reset, call, run}
-use Rattle.model.specs.Calls.{Reply, of_packet, of_poll, of_expiry, of_listen, of_mute, of_ask, of_clear, of_clear_all, of_reset_pairs, of_reset_discovery, of_reset, reply, replies}
-use Rattle.model.specs.Invariant.{Kept}
+use Rattle.model.specs.Answer.{step_number, poll_number, expiry_number, listen_number, mute_number, clear_number}
+use Rattle.model.specs.Step.{Outcome}
+use Rattle.model.specs.Calls.{Reply, of_packet, of_poll, of_expiry, of_listen, of_mute, of_ask, of_clear, of_clear_all, of_reset_pairs, of_reset_discovery, of_reset}
 use Rattle.model.specs.StepAnswer16 as was
 use Rattle.model.specs.With16 as old
 

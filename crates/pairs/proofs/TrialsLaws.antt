@@ -9,11 +9,10 @@ use borrow.Author.Tests.{lt-leb, le-leb}
 use Rattle.laws.specs.Cases.{split}
 use Rattle.laws.specs.Order.{before_by}
 use Rattle.laws.specs.Table.{any, find, remove}
-use Rattle.rules.specs.declared.Cid.{Cid}
 use Rattle.settings.specs.declared.SourceLimit.{SourceLimit}
 use Rattle.settings.specs.declared.SourceLimit.TheVariants.{AtMost}
 use Rattle.pairs.specs.declared.Pair.{Pair}
-use Rattle.pairs.specs.declared.Checked.TheVariants.{Accepted, SourcesExceeded, PairsFull}
+use Rattle.pairs.specs.declared.Checked.TheVariants.{Accepted, SourcesExceeded}
 use Rattle.pairs.specs.Table.{key, key_of, Table, empty, pair_at, listed, without, recorded, source_stop, unknown, full, sequence_stop, stop, settle, admit}
 use Rattle.pairs.specs.Trials.{cid, pair}
 

@@ -19,11 +19,10 @@ use Rattle.rules.specs.Answer.{first_of}
 use Rattle.settings.specs.declared.SourceLimit.{SourceLimit}
 use Rattle.pairs.specs.declared.Pair.{Pair}
 use Rattle.pairs.specs.declared.Checked.{Checked}
-use Rattle.pairs.specs.declared.Checked.TheVariants.{Accepted, UniverseTimeout, SourcesExceeded, OutOfSequence, PairsFull, Repeated}
+use Rattle.pairs.specs.declared.Checked.TheVariants.{Accepted, PairsFull}
 use Rattle.pairs.specs.Table.{Key, key_of, itself, Table, pair_at, has, listed, live, swept, sweep, recorded, reached, source_stop, full, told_as, stopping, sequence_stop, stop, settle, admit, after_sweep, check, Ordered}
 use Rattle.pairs.specs.Laws.{GoodTable}
 use Rattle.pairs.proofs.Laws.{listed_good, has_found, has_keep, admit_stored, admit_stopped, good_sweep}
-use Rattle.pairs.specs.Checked16 as was
 use Rattle.pairs.specs.With16 as old
 use Rattle.pairs.specs.Without16.{as_was, each}
 

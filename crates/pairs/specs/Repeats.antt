@@ -1,18 +1,12 @@
 -- Document 02, F-4: "State after either refusal is as before", as swept. A repeat renews neither sequence number nor reading,
 -- so a source that only repeats itself expires.
 -- Assumes nothing.
-use Rattle.std.specs.Prelude.{◌≡◌, ◌≢◌, Bool, true, false, List, [], ◌∷◌, ℕ, pos}
-use Rattle.std.proofs.Common.{sym, ap, ◌∙◌}
-use Rattle.std.proofs.Math.Option.{none, some}
-use Rattle.laws.specs.Cases.{clash, found, missing}
-use Rattle.rules.specs.Age.{expired}
-use Rattle.rules.specs.Sequence.{difference}
-use Rattle.rules.proofs.SequenceLaws.{difference_same}
+use Rattle.std.specs.Prelude.{◌≡◌, Bool, true, List, [], ◌∷◌}
+use Rattle.std.proofs.Math.Option.{some}
 use Rattle.settings.specs.declared.SourceLimit.{SourceLimit}
 use Rattle.pairs.specs.declared.Pair.{Pair}
-use Rattle.pairs.specs.declared.Checked.TheVariants.{Repeated}
-use Rattle.pairs.specs.Table.{Key, key_of, Table, pair_at, live, swept, sweep, told, noted, full, sequence_stop, source_stop, stop, admit, check, Ordered}
-use Rattle.pairs.specs.Laws.{GoodTable}
+use Rattle.pairs.specs.Table.{key_of, Table, pair_at, live, check}
+
 -- q stands in the table as its last accepted arrival left it, with that number and that reading
 abbrev pub Stands : Pair → Table → Type 0
 Stands q t = pair_at (key_of q) t.pairs ≡ some q

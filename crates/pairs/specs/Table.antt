@@ -3,11 +3,10 @@
 -- Assumes nothing.
 use Rattle.std.specs.Prelude.{Bool, true, false, not, cond, ◌&&◌, ◌||◌, List, [], ◌∷◌, ℕ, ◌≤◌, ltb, leb, length, ℤ}
 use Rattle.std.proofs.Math.Option.{Option, none, some}
-use Rattle.laws.specs.Order.{Order, ℕOrder, before_by, order_by}
+use Rattle.laws.specs.Order.{before_by}
 use Rattle.laws.specs.Table.{keep, any, find, store, remove, Ascending}
 use Rattle.rules.specs.declared.Cid.{Cid}
 use Rattle.rules.specs.Cid.{same, before}
-use Rattle.rules.proofs.CidLaws.{cid_order}
 use Rattle.rules.specs.Age.{expired}
 use Rattle.rules.specs.declared.SequenceAnswer.{SequenceAnswer}
 use Rattle.rules.specs.declared.SequenceAnswer.TheVariants as sequence
@@ -18,6 +17,7 @@ use Rattle.settings.specs.declared.SourceLimit.TheVariants.{Unlimited, AtMost}
 use Rattle.pairs.specs.declared.Pair.{Pair}
 use Rattle.pairs.specs.declared.Checked.{Checked}
 use Rattle.pairs.specs.declared.Checked.TheVariants.{Accepted, UniverseTimeout, SourcesExceeded, OutOfSequence, PairsFull, Repeated}
+
 -- "A pair is a CID and a universe or address"
 pub record Key : Type 0 where
   pub cid : Cid

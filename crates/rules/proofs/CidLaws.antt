@@ -1,6 +1,6 @@
 -- A source's CID: 16 bytes, held as two words, most significant first.
 -- Assumes nothing.
-use Rattle.std.specs.Prelude.{◌≡◌, ℕ, ◌^◌, ◌<◌, Bool, true, false, ◌&&◌, ◌≢◌, List, [], ◌∷◌, ◌++◌, length, take, drop, ◌==◌, nat_lt, refl}
+use Rattle.std.specs.Prelude.{◌≡◌, ℕ, true, false, ◌≢◌, List, [], ◌∷◌, ◌++◌, length, take, drop, ◌==◌, nat_lt, refl}
 use Rattle.std.proofs.Common.{sym, ap, ◌∙◌, arith, mod-eq_of_lt, take-append-drop, length-take, length-drop, length-append, take_at, drop_at, eq-eqb, eqb-true}
 use Rattle.laws.specs.Cases.{split}
 use Rattle.laws.specs.Order.{Order, ℕOrder, before_by, order_by}

@@ -1,11 +1,7 @@
 -- Numbers as bytes, most significant first ('big-endian' in document 01), and the order of byte strings.
 -- Assumes nothing.
-use Rattle.std.specs.Prelude.{◌≡◌, ℕ, zero, suc, ◌+◌, ◌*◌, ◌/◌, ◌%◌, ◌^◌, ◌<◌, ◌≤◌, Bool, true, false, cond, ltb, List, [], ◌∷◌, ◌++◌, reverse, length, take, drop, nat_lt, slice_index, refl}
-use Rattle.std.proofs.Common.{sym, ap, ◌∙◌, arith, mul-le-mul_right, suc-mul, le_of_lt, pow-suc, mod-lt, mod-eq_of_lt, add-mul, mul_assoc, mul_comm, div-add-mod', ltb-true, ltb-false, lt-ltb, le-ltb}
-use mathlib.Core.List.{reverse_aux, reverse-reverse}
-use Rattle.std.proofs.Math.Nat.{pow-succ', mod-one, div-div-eq-div-mul}
-use Rattle.std.proofs.lemmas.List.{length-reverse}
-use Rattle.laws.specs.Cases.{split}
+use Rattle.std.specs.Prelude.{ℕ, zero, suc, ◌+◌, ◌*◌, ◌/◌, ◌%◌, ◌^◌, ◌<◌, Bool, true, false, cond, List, [], ◌∷◌, reverse, length, nat_lt}
+
 -- the number that the bytes spell
 unfoldable pub number : List ℕ → ℕ
 number [] = 0

@@ -1,11 +1,10 @@
 -- A source's CID: 16 bytes, held as two words, most significant first.
 -- Assumes nothing.
-use Rattle.std.specs.Prelude.{◌≡◌, ℕ, ◌^◌, ◌<◌, Bool, true, false, ◌&&◌, ◌≢◌, List, [], ◌∷◌, ◌++◌, length, take, drop, ◌==◌, nat_lt, refl}
-use Rattle.std.proofs.Common.{sym, ap, ◌∙◌, arith, mod-eq_of_lt, take-append-drop, length-take, length-drop, length-append, take_at, drop_at, eq-eqb, eqb-true}
-use Rattle.laws.specs.Cases.{split}
-use Rattle.laws.specs.Order.{Order, ℕOrder, before_by, order_by}
+use Rattle.std.specs.Prelude.{◌≡◌, ℕ, ◌^◌, ◌<◌, Bool, true, ◌&&◌, List, ◌++◌, length, take, drop, ◌==◌, nat_lt}
+use Rattle.laws.specs.Order.{before_by}
 use Rattle.rules.specs.declared.Cid.{Cid}
-use Rattle.rules.specs.Bytes.{number, big_endian, Bytes, bytes_before}
+use Rattle.rules.specs.Bytes.{number, big_endian, Bytes}
+
 -- "A source is a 16-byte CID."
 abbrev pub cid_of : List ℕ → Cid
 cid_of bytes = record { hi = number (take 8 bytes); lo = number (drop 8 bytes) }

@@ -1,13 +1,11 @@
 -- Document 01, 'Number rules': the sequence rule of E1.31 6.7.2; document 02, F-4: its three answers.
 -- Assumes nothing.
-use Rattle.std.specs.Prelude.{◌≡◌, ℕ, zero, suc, ◌+◌, ◌-◌, ◌%◌, ◌<◌, Bool, true, false, cond, not, ◌&&◌, List, [], ◌∷◌, map, ℤ, pos, negsuc, neg_ℤ, nat_abs, ◌==◌, nat_le, nat_lt, refl}
-use Rattle.std.proofs.Common.{sym, ap, ◌∙◌, arith, le-leb, eq-eqb}
+use Rattle.std.specs.Prelude.{◌≡◌, ℕ, ◌+◌, ◌-◌, ◌%◌, Bool, true, false, cond, not, ◌&&◌, List, [], ◌∷◌, ℤ, pos, neg_ℤ, nat_lt}
 use Rattle.std.specs.Int.Signed.{le_z}
-use Rattle.std.proofs.lemmas.Bool.{lt-leb}
-use Rattle.laws.specs.Cases.{split, clash}
 use Rattle.rules.specs.Answer.{Value, number, integer}
 use Rattle.rules.specs.declared.SequenceAnswer.{SequenceAnswer}
 use Rattle.rules.specs.declared.SequenceAnswer.TheVariants.{Accepted, Repeated, Late}
+
 -- "arriving minus last is taken modulo 256"
 abbrev pub wrapped : ℕ → ℕ → ℕ
 wrapped arriving last = (arriving + 256 - last) % 256

@@ -1,18 +1,13 @@
 -- Document 01, 'Settings': "Preview, three announcements, merge choice and a source limit that is either none or 1 to 65,535." Document 02, F-3: "Discovery gets an expiry of its own, held in the settings".
 -- Assumes nothing.
-use Rattle.std.specs.Prelude.{◌≡◌, refl, Bool, true, false, cond, ◌&&◌, List, [], ◌∷◌, map, ℕ, zero, suc, ◌≤◌, eqb, leb}
+use Rattle.std.specs.Prelude.{◌≡◌, refl, Bool, true, false, [], ◌∷◌, map, ℕ, zero, suc, ◌≤◌, eqb, leb}
 use Rattle.std.proofs.Common.{arith, ne_eqb, leb-true, le-leb}
 use Rattle.laws.specs.Cases.{split, clash}
-use Rattle.rules.specs.Answer.{Value}
 use Rattle.settings.specs.declared.Settings.{Settings}
 use Rattle.settings.specs.declared.MergeChoice.{MergeChoice}
-use Rattle.settings.specs.declared.MergeChoice.TheVariants.{DiscardLowestPriorityThenPrevious, HtpDmxMerge}
-use Rattle.settings.specs.declared.SourceLimit.{SourceLimit}
 use Rattle.settings.specs.declared.SourceLimit.TheVariants.{Unlimited, AtMost}
-use Rattle.settings.specs.declared.SettingAnswer.{SettingAnswer}
-use Rattle.settings.specs.declared.SettingAnswer.TheVariants.{Set, LimitZero, ExpiryOutOfRange}
-use Rattle.settings.specs.declared.Adjusted.{Adjusted}
-use Rattle.settings.specs.Settings.{Keeps, Proper, ProperExpiry, expiring, fresh, in_range, limited, number_of, settings, values_of, with_discovery, with_expiry, with_limit, with_merge, with_preview, with_termination, with_timeout, without_limit}
+use Rattle.settings.specs.declared.SettingAnswer.TheVariants.{Set}
+use Rattle.settings.specs.Settings.{Keeps, Proper, ProperExpiry, expiring, fresh, in_range, limited, number_of, values_of, with_discovery, with_expiry, with_limit, with_merge, with_preview, with_termination, with_timeout, without_limit}
 
 -- ── the limit ──
 -- the row of document 01's table: number 14, nothing returned, all left

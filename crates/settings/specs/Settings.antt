@@ -1,17 +1,16 @@
 -- Document 01, 'Settings': "Preview, three announcements, merge choice and a source limit that is either none or 1 to 65,535." Document 02, F-3: "Discovery gets an expiry of its own, held in the settings".
 -- Assumes nothing.
-use Rattle.std.specs.Prelude.{◌≡◌, refl, Bool, true, false, cond, ◌&&◌, List, [], ◌∷◌, map, ℕ, zero, suc, ◌≤◌, eqb, leb}
-use Rattle.std.proofs.Common.{arith, ne_eqb, leb-true, le-leb}
-use Rattle.laws.specs.Cases.{split, clash}
+use Rattle.std.specs.Prelude.{Bool, false, cond, ◌&&◌, List, [], ℕ, ◌≤◌, eqb, leb}
 use Rattle.rules.specs.Answer.{Value}
 use Rattle.settings.specs.declared.Settings.{Settings}
 use Rattle.settings.specs.declared.MergeChoice.{MergeChoice}
-use Rattle.settings.specs.declared.MergeChoice.TheVariants.{DiscardLowestPriorityThenPrevious, HtpDmxMerge}
+use Rattle.settings.specs.declared.MergeChoice.TheVariants.{DiscardLowestPriorityThenPrevious}
 use Rattle.settings.specs.declared.SourceLimit.{SourceLimit}
 use Rattle.settings.specs.declared.SourceLimit.TheVariants.{Unlimited, AtMost}
 use Rattle.settings.specs.declared.SettingAnswer.{SettingAnswer}
 use Rattle.settings.specs.declared.SettingAnswer.TheVariants.{Set, LimitZero, ExpiryOutOfRange}
 use Rattle.settings.specs.declared.Adjusted.{Adjusted}
+
 -- the record of its seven parts
 abbrev pub settings : Bool → Bool → Bool → Bool → MergeChoice → SourceLimit → ℕ → Settings
 settings preview discovery termination timeout merge limit expiry = record {

@@ -1,6 +1,6 @@
 -- Document 02, F-6: what is written reads back alike; what is read, written again, is what it was. By the facts on fields in general, for both layouts.
 -- Assumes nothing.
-use Rattle.std.specs.Prelude.{◌≡◌, refl, Bool, true, false, not, List, [], ◌∷◌, ◌++◌, ℕ, zero, suc, ◌≤◌, ◌<◌, eqb, ltb, leb, length, take, drop, get_or}
+use Rattle.std.specs.Prelude.{◌≡◌, refl, Bool, true, false, List, [], ◌∷◌, ◌++◌, ℕ, zero, suc, ◌≤◌, ◌<◌, eqb, ltb, leb, length, take, drop, get_or}
 use Rattle.std.proofs.Common.{sym, ap, ◌∙◌, arith, length-append, take-append-drop, take_at, eqb-true, ne_eqb, ltb-false, le-ltb, leb-true}
 use Rattle.std.proofs.Math.Option.{none, some}
 use Rattle.std.proofs.lemmas.Bool.{eqb-false}
@@ -20,7 +20,7 @@ use Rattle.settings_store.specs.declared.Layouts.TheVariants.{First, Both}
 use Rattle.settings_store.specs.declared.StoreSettingsAnswer.{StoreSettingsAnswer}
 use Rattle.settings_store.specs.declared.StoreSettingsAnswer.TheVariants.{Stored, TooShort, LimitZero, ExpiryOutOfRange}
 use Rattle.settings_store.specs.declared.LoadSettingsAnswer.TheVariants.{Loaded, NoSettingsRecord, UnreadableSettingsRecord}
-use Rattle.settings_store.specs.Record.{limit, expiry, layout_1, layout_2, merge_number, merge_of, limit_number, limit_of, values_of, settings_from, record_of, record_length, zero_limit, store_answer, left_by, store_bytes, fields_of, marked, shown, loaded, Restores, as_layout_2, Rewrites}
+use Rattle.settings_store.specs.Record.{expiry, layout_1, layout_2, merge_number, merge_of, limit_number, limit_of, values_of, settings_from, record_of, record_length, zero_limit, store_answer, left_by, store_bytes, fields_of, marked, shown, loaded, Restores, as_layout_2, Rewrites}
 use Rattle.settings_store.specs.Laws.{Narrow}
 
 -- ── settings and values ──

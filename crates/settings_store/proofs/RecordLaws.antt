@@ -1,23 +1,15 @@
 -- Document 02, F-6: settings in lent bytes. "A record is the mark 53 54 (hexadecimal), a layout byte, then the fields. .. Numbers are big-endian."
 -- Assumes nothing.
-use Rattle.std.specs.Prelude.{◌≡◌, refl, Bool, true, false, cond, not, ◌&&◌, List, [], ◌∷◌, ◌++◌, map, ℕ, ◌≤◌, eqb, ltb, leb, length, take, drop, get_or, replicate}
-use Rattle.std.proofs.Math.Option.{Option, none, some}
-use Rattle.rules.specs.Answer.{Value}
-use Rattle.rules.specs.Answer as answer
-use Rattle.rules.specs.Bytes.{bit, number, big_endian}
-use Rattle.fields.specs.Fields.{Field, size, encode, Decoded, values, short, out_of_range, decode}
-use Rattle.settings.specs.declared.Settings.{Settings}
-use Rattle.settings.specs.declared.MergeChoice.{MergeChoice}
+use Rattle.std.specs.Prelude.{◌≡◌, refl, true, false, List, [], ◌∷◌, ◌++◌, map, ℕ, length, replicate}
+use Rattle.rules.specs.Bytes.{number, big_endian}
+use Rattle.fields.specs.Fields.{size, encode, decode}
 use Rattle.settings.specs.declared.MergeChoice.TheVariants.{DiscardLowestPriorityThenPrevious, HtpDmxMerge}
 use Rattle.settings.specs.declared.SourceLimit.{SourceLimit}
 use Rattle.settings.specs.declared.SourceLimit.TheVariants.{Unlimited, AtMost}
-use Rattle.settings.specs.Settings.{settings, fresh, in_range, Proper}
-use Rattle.settings_store.specs.declared.Layouts.{Layouts}
+use Rattle.settings.specs.Settings.{settings, fresh}
 use Rattle.settings_store.specs.declared.Layouts.TheVariants.{First, Both}
-use Rattle.settings_store.specs.declared.StoreSettingsAnswer.{StoreSettingsAnswer}
-use Rattle.settings_store.specs.declared.StoreSettingsAnswer.TheVariants.{Stored, TooShort, LimitZero, ExpiryOutOfRange}
-use Rattle.settings_store.specs.declared.LoadSettingsAnswer.{LoadSettingsAnswer}
-use Rattle.settings_store.specs.declared.LoadSettingsAnswer.TheVariants.{Loaded, NoSettingsRecord, UnreadableSettingsRecord}
+use Rattle.settings_store.specs.declared.StoreSettingsAnswer.TheVariants.{TooShort}
+use Rattle.settings_store.specs.declared.LoadSettingsAnswer.TheVariants.{Loaded}
 use Rattle.settings_store.specs.Record.{load_number, loaded, record_length, record_of, store_answer, store_bytes, store_number}
 
 -- ── in numbers: every row is computed, and stands before the laws ──

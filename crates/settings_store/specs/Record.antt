@@ -1,23 +1,24 @@
 -- Document 02, F-6: settings in lent bytes. "A record is the mark 53 54 (hexadecimal), a layout byte, then the fields. .. Numbers are big-endian."
 -- Assumes nothing.
-use Rattle.std.specs.Prelude.{◌≡◌, refl, Bool, true, false, cond, not, ◌&&◌, List, [], ◌∷◌, ◌++◌, map, ℕ, ◌≤◌, eqb, ltb, leb, length, take, drop, get_or, replicate}
+use Rattle.std.specs.Prelude.{◌≡◌, Bool, true, false, cond, not, ◌&&◌, List, [], ◌∷◌, ◌++◌, ℕ, ◌≤◌, eqb, ltb, leb, length, take, drop, get_or}
 use Rattle.std.proofs.Math.Option.{Option, none, some}
 use Rattle.rules.specs.Answer.{Value}
 use Rattle.rules.specs.Answer as answer
-use Rattle.rules.specs.Bytes.{bit, number, big_endian}
+use Rattle.rules.specs.Bytes.{bit}
 use Rattle.fields.specs.Fields.{Field, size, encode, Decoded, values, short, out_of_range, decode}
 use Rattle.settings.specs.declared.Settings.{Settings}
 use Rattle.settings.specs.declared.MergeChoice.{MergeChoice}
 use Rattle.settings.specs.declared.MergeChoice.TheVariants.{DiscardLowestPriorityThenPrevious, HtpDmxMerge}
 use Rattle.settings.specs.declared.SourceLimit.{SourceLimit}
 use Rattle.settings.specs.declared.SourceLimit.TheVariants.{Unlimited, AtMost}
-use Rattle.settings.specs.Settings.{settings, fresh, in_range, Proper}
+use Rattle.settings.specs.Settings.{settings, in_range, Proper}
 use Rattle.settings_store.specs.declared.Layouts.{Layouts}
 use Rattle.settings_store.specs.declared.Layouts.TheVariants.{First, Both}
 use Rattle.settings_store.specs.declared.StoreSettingsAnswer.{StoreSettingsAnswer}
 use Rattle.settings_store.specs.declared.StoreSettingsAnswer.TheVariants.{Stored, TooShort, LimitZero, ExpiryOutOfRange}
 use Rattle.settings_store.specs.declared.LoadSettingsAnswer.{LoadSettingsAnswer}
 use Rattle.settings_store.specs.declared.LoadSettingsAnswer.TheVariants.{Loaded, NoSettingsRecord, UnreadableSettingsRecord}
+
 -- ── the fields ──
 -- "one byte each, 0 or 1"; "the merge choice (one byte, 0 by priority, 1 by highest value)"
 abbrev pub flag : Field

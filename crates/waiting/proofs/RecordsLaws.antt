@@ -1,13 +1,8 @@
 -- Document 01, 'Released bytes'.
 -- Assumes nothing.
-use Rattle.std.specs.Prelude.{◌≡◌, refl, false, List, [], ◌∷◌, ◌++◌, ℕ, length, drop, replicate}
-use Rattle.rules.specs.declared.Cid.{Cid}
-use Rattle.rules.specs.Bytes.{big_endian, number, bit}
-use Rattle.rules.specs.Cid.{cid_bytes}
-use Rattle.merge.specs.declared.DmxData.{DmxData}
-use Rattle.merge.specs.declared.SourceCid.{SourceCid}
-use Rattle.merge.specs.declared.SourceCid.TheVariants.{Merged, Of}
-use Rattle.merge.specs.Merge.{Dmx}
+use Rattle.std.specs.Prelude.{◌≡◌, refl, false, [], ◌∷◌}
+use Rattle.rules.specs.Bytes.{big_endian}
+use Rattle.merge.specs.declared.SourceCid.TheVariants.{Of}
 use Rattle.waiting.specs.Records.{encode}
 
 -- document 01's printed example: universe 1, address 0, priority 100, no preview, CID 16 bytes of 11, reading 1,000, values 0, 255

@@ -1,13 +1,12 @@
 -- Document 01, 'Released bytes'.
 -- Assumes nothing.
-use Rattle.std.specs.Prelude.{◌≡◌, refl, false, List, [], ◌∷◌, ◌++◌, ℕ, length, drop, replicate}
-use Rattle.rules.specs.declared.Cid.{Cid}
-use Rattle.rules.specs.Bytes.{big_endian, number, bit}
+use Rattle.std.specs.Prelude.{List, [], ◌∷◌, ◌++◌, ℕ, length, drop, replicate}
+use Rattle.rules.specs.Bytes.{big_endian, bit}
 use Rattle.rules.specs.Cid.{cid_bytes}
-use Rattle.merge.specs.declared.DmxData.{DmxData}
 use Rattle.merge.specs.declared.SourceCid.{SourceCid}
 use Rattle.merge.specs.declared.SourceCid.TheVariants.{Merged, Of}
 use Rattle.merge.specs.Merge.{Dmx}
+
 -- "CID present 1, CID 16 (zeros if none)"
 abbrev pub owner : SourceCid → List ℕ
 owner Merged = 0 ∷ replicate 16 0

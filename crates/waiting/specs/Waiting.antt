@@ -1,6 +1,6 @@
 -- Document 01, 'Waiting data': what each call makes of the data that waits, a list by ascending universe.
 -- Assumes nothing.
-use Rattle.std.specs.Prelude.{◌≡◌, Bool, true, false, not, cond, List, [], ◌∷◌, ℕ, ◌≤◌, ltb, leb, eqb, length}
+use Rattle.std.specs.Prelude.{Bool, true, false, not, cond, List, [], ◌∷◌, ℕ, ◌≤◌, ltb, leb, eqb, length}
 use Rattle.std.proofs.Math.Option.{Option, none, some}
 use Rattle.laws.specs.Table.{keep, find, store, remove, Ascending}
 use Rattle.rules.specs.Age.{expired}

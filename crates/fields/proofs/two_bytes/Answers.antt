@@ -2,7 +2,6 @@
 -- Assumes nothing.
 use native.Mathlib.Omega.{arith}
 use Rattle.rules.specs.Bytes.{number}
-use borrow.Author.Rules.{rules}
 use Rattle.fields.proofs.two_bytes.Goals as goal
 
 pub returns : goal.returns

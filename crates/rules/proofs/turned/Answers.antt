@@ -1,6 +1,6 @@
 -- The bytes are the definition's, one by one.
 -- Assumes nothing.
-use Rattle.std.proofs.Common.{ap, ◌∙◌, div-one, rules}
+use Rattle.std.proofs.Common.{ap, ◌∙◌, div-one}
 use Rattle.rules.specs.Bytes.{number, big_endian}
 use Rattle.rules.proofs.turned.Goals as goal
 

@@ -1,6 +1,6 @@
 -- The bytes of each turned word, last first, are those of the word.
 -- Assumes nothing.
-use Rattle.std.proofs.Common.{◌++◌, ◌∙◌, div-one, rules}
+use Rattle.std.proofs.Common.{◌++◌, ◌∙◌, div-one}
 use Rattle.rules.specs.Bytes.{big_endian}
 use Rattle.rules.proofs.BytesLaws.{turned_back}
 use Rattle.rules.proofs.Cid.to_bytes.Goals as goal
