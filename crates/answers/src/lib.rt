@@ -1,4 +1,7 @@
 // What a part of the receiver answers, as the answer of a step.
+
+#![tactic(auto)]
+
 ghost use Rattle.std.specs.Prelude.{◌≡◌};
 ghost use Rattle.waiting.specs.Answers.{store_number_of, store_values_of, release_number_of};
 ghost use Rattle.model.specs.Answer.{step_number};

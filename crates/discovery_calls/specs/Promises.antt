@@ -1,9 +1,9 @@
 -- Discovery's lent memory in a contract: sources, names, pages and pool are named once, as the call finds them and as it leaves them.
 -- Assumes nothing.
 use Rattle.std.specs.Prelude.{List, ℕ}
-use Rattle.std.specs.Borrow.{Bor}
 use denote.Triple.Both.{Both}
-use Rattle.laws.specs.Lent.{Part}
+use Rattle.laws.specs.Lent as shared
+use Rattle.discovery_pages.specs.Promises.{Part}
 use Rattle.rules.specs.declared.Cid.{Cid}
 use Rattle.discovery.specs.declared.PageAnswer.{PageAnswer}
 use Rattle.discovery.specs.Discovery.{Discovered, Announcement}
@@ -19,22 +19,40 @@ pub record Memory : Type 0 where
   pub pages : List (List ℕ)
   pub universes : List ℕ
 
-abbrev pub memory : Bor (List (List ℕ)) → Bor (List (List ℕ)) → Bor (List (List ℕ)) → Bor (List ℕ) → Memory
-memory sources names pages universes = record { sources = sources.now; names = names.now; pages = pages.now; universes = universes.now }
+abbrev pub memory : List (List ℕ) → List (List ℕ) → List (List ℕ) → List ℕ → Memory
+memory sources names pages universes = record { sources = sources; names = names; pages = pages; universes = universes }
 
--- before and after the call
-abbrev pub lent : Part (List (List ℕ)) → Part (List (List ℕ)) → Part (List (List ℕ)) → Part (List ℕ) → Both Memory Memory
-lent sources names pages universes = record {
+-- what a part holds before and after the call: one lent to be changed, and one lent shared
+abbrev pub changed : {X : Type 0} → Part X → Both X X
+changed x = record { entry = x.entry.now; exit = x.exit.now }
+
+abbrev pub read : {X : Type 0} → shared.Part X → Both X X
+read x = record { entry = x.entry.now; exit = x.exit.now }
+
+abbrev pub memories : Both (List (List ℕ)) (List (List ℕ)) → Both (List (List ℕ)) (List (List ℕ)) → Both (List (List ℕ)) (List (List ℕ)) → Both (List ℕ) (List ℕ) → Both Memory Memory
+memories sources names pages universes = record {
   entry = memory sources.entry names.entry pages.entry universes.entry;
   exit = memory sources.exit names.exit pages.exit universes.exit;
 }
+
+-- before and after the call
+abbrev pub lent : Part (List (List ℕ)) → Part (List (List ℕ)) → Part (List (List ℕ)) → Part (List ℕ) → Both Memory Memory
+lent sources names pages universes = memories (changed sources) (changed names) (changed pages) (changed universes)
+
+-- the same where the names are lent shared
+abbrev pub lent_names_shared : Part (List (List ℕ)) → shared.Part (List (List ℕ)) → Part (List (List ℕ)) → Part (List ℕ) → Both Memory Memory
+lent_names_shared sources names pages universes = memories (changed sources) (read names) (changed pages) (changed universes)
+
+-- the same where the sources and their names are lent shared
+abbrev pub lent_sources_shared : shared.Part (List (List ℕ)) → shared.Part (List (List ℕ)) → Part (List (List ℕ)) → Part (List ℕ) → Both Memory Memory
+lent_sources_shared sources names pages universes = memories (read sources) (read names) (changed pages) (changed universes)
 
 -- the sources that a state and its memory hold
 abbrev pub known : Discovery → Memory → Discovered
 known d m = discovered_of d m.sources m.names m.pages m.universes
 
 -- a packet's contents as the call finds them
-abbrev pub announcement : Cid → Part (List ℕ) → ℕ → ℕ → Part (List ℕ) → Announcement
+abbrev pub announcement : Cid → shared.Part (List ℕ) → ℕ → ℕ → shared.Part (List ℕ) → Announcement
 announcement cid name page last_page list = record { cid = cid; name = name.entry.now; page = page; last_page = last_page; universes = list.entry.now }
 
 -- ── what the call leaves ──

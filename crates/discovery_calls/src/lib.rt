@@ -1,4 +1,7 @@
 // Document 01, 'Discovery': sources that announce their universes in pages, partial and listed. Their rows and the pool are lent.
+
+#![tactic(auto)]
+
 ghost use Rattle.std.specs.Prelude.{◌≡◌, true, false, not, ◌+◌, ◌≤◌, ◌<◌, length, take};
 ghost use Rattle.std.proofs.Math.Option.{some};
 ghost use Rattle.laws.specs.Table.{any};
@@ -8,7 +11,7 @@ ghost use Rattle.discovery_rows.specs.Rows.{owned};
 ghost use Rattle.discovery.specs.Discovery.{Source, lookup, begun, extended, extend, list, noting, taken, ended, swept, capacity, most_name, most_universes};
 ghost use Rattle.discovery_calls.specs.Moves.{with_source};
 ghost use Rattle.discovery_calls.specs.View.{heads_of, Kept, Emptied};
-ghost use Rattle.discovery_calls.specs.Promises.{lent, known, announcement, HoldsIn, TookIn, DroppedIn, ArrivalIn, CalledIn};
+ghost use Rattle.discovery_calls.specs.Promises.{lent, lent_names_shared, lent_sources_shared, known, announcement, HoldsIn, TookIn, DroppedIn, ArrivalIn, CalledIn};
 
 use discovery::{NAME, PAGE_UNIVERSES, PAGES, PageAnswer, PageCall};
 use discovery_pages::pages::{cut_pages, drop_pages, put_page};
@@ -137,7 +140,7 @@ impl Discovery {
         requires { Kept self sources.old names.now pages.old universes.old
             × (self.page_count < capacity) × (length name.now ≤ most_name) × (length list.now ≤ most_universes)
             × (at ≡ prefix (λ row. not (owned 0 cid row)) (take self.source_count sources.old)) × (at < self.source_count) }
-        ensures { let m = lent sources names pages universes in
+        ensures { let m = lent_names_shared sources names pages universes in
             ((t : Source) → lookup cid (known self m.entry).partial ≡ some t →
             HoldsIn m result (noting (extend (extended reading (announcement cid name page last_page list) t)) (known self m.entry))) }
     {
@@ -452,7 +455,7 @@ impl Discovery {
         universe: u16,
     ) -> Discovery
         requires { Kept self sources.now names.now pages.old universes.old }
-        ensures { let m = lent sources names pages universes in
+        ensures { let m = lent_sources_shared sources names pages universes in
             HoldsIn m result (ended cid universe (known self m.entry)) }
     {
         let used = cut_pages(&mut *pages, &mut *universes, self.page_count, cid, universe);

@@ -1,4 +1,7 @@
 // What is known of the sources, read out for a dump: how many, which row holds which, what a row says.
+
+#![tactic(auto)]
+
 ghost use Rattle.std.specs.Prelude.{◌≡◌, List, [], ℕ, ◌+◌, ◌≤◌, ◌<◌, min, length, take};
 ghost use Rattle.laws.specs.Table.{keep};
 ghost use Rattle.discovery.specs.Discovery.{capacity};

@@ -1,4 +1,7 @@
 // Document 01, 'The receiver', 1: the lengths that a step tests before all else, and those that a further call tests.
+
+#![tactic(auto)]
+
 ghost use Rattle.std.specs.Prelude.{◌≡◌, length};
 ghost use Rattle.rules.specs.Answer.{first_of};
 ghost use Rattle.model.specs.Packet.{over};

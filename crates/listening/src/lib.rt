@@ -1,4 +1,7 @@
 // Document 01, 'The receiver': the listened universes, ascending in lent memory.
+
+#![tactic(auto)]
+
 ghost use Rattle.std.specs.Prelude.{◌≡◌, [], ◌∷◌, ◌+◌, ◌-◌, ◌≤◌, ◌<◌, length, take, ltb};
 ghost use Rattle.laws.specs.Place.{place, insert_at, remove_at};
 ghost use Rattle.model.specs.State.{itself, listens};

@@ -1,4 +1,7 @@
 // Document 01, 'Merging': the two merge choices over data with all seven fields, as code over lent lists.
+
+#![tactic(auto)]
+
 ghost use Rattle.std.specs.Prelude.{◌≡◌, ◌||◌, [], ◌+◌, ◌≤◌, max, length};
 ghost use Rattle.laws.specs.Parts.{pasted};
 ghost use Rattle.merge.specs.Merge.{mergeable, highest, blended, htp_answer, htp_output, choice, chosen};

@@ -1,4 +1,7 @@
 // E1.31 6: the packets that a step takes, as the caller hands them over, and what is done with a data packet. Values, name and universes stand beside a packet as lent parts.
+
+#![tactic(auto)]
+
 ghost use Rattle.std.specs.Prelude.{◌≡◌, not, ◌&&◌};
 ghost use Rattle.packets.specs.View.{data_of, course_of};
 

@@ -1,4 +1,7 @@
 // Rows of pair tables in lent memory: what a row stands for, where a key stands, rows put in, taken out and moved.
+
+#![tactic(auto)]
+
 mod rows;
 mod search;
 

@@ -21,7 +21,7 @@ use Rattle.rules.specs.Age.{expired}
 use Rattle.pairs.specs.declared.Pair.{Pair}
 use Rattle.pairs.specs.declared.SweepAnswer.{SweepAnswer}
 use Rattle.pairs.specs.declared.SweepAnswer.TheVariants.{Quiet, TimedOut}
-use Rattle.pairs.specs.Table.{Key, key, key_of, key_before, itself, has, live, lowest, later, last_noted, noted}
+use Rattle.pairs.specs.Table.{Key, key_of, key_before, itself, has, live, lowest, later, last_noted, noted}
 use Rattle.pairs.specs.Laws.{stale}
 use Rattle.pair_rows.specs.View.{Rows, cid_of, pair_of, listed_sources_of, row_before, starts, lapsed, older, lonely, note_of, later_note}
 use Rattle.pair_rows.specs.Rows.{by_first_not}

@@ -1,5 +1,8 @@
 // The passes of a sweep over the lent rows of a pair table: what stays, what is noted, which CIDs have a pair.
 // For `pair_tables`.
+
+#![tactic(auto)]
+
 ghost use Rattle.std.specs.Prelude.{◌≡◌, not, map, ◌≤◌, length, take, drop};
 ghost use Rattle.laws.specs.Table.{keep, Ascending};
 ghost use Rattle.pairs.specs.Table.{capacity, key_of, key_before, has, live, lowest, last_noted, noted};

@@ -1,5 +1,6 @@
 // Document 01, 'Pair tables': pairs of a CID and a universe with their last sequence number and reading, and the CIDs that count as sources.
 // A table is a small header by value; its rows lie in memory that the caller lends to every call, and are changed in place.
+#![tactic(auto)]
 
 // What every call of a table is lent.
 ghost use Rattle.std.specs.Prelude.{◌≡◌, true, false, not, ◌&&◌, ◌≤◌, ◌<◌, length};

@@ -14,6 +14,7 @@ use model::{ClearAnswer, ExpiryAnswer, ListenAnswer, MuteAnswer, PollAnswer, Ste
 use rules::Cid;
 use settings::{MergeChoice, SettingAnswer, Settings, SourceLimit};
 use settings_store::{LoadSettingsAnswer, StoreSettingsAnswer};
+use std::io::Stdout;
 
 // The first n elements, or all.
 pub fn front(bytes: &[u8], n: usize) -> &[u8]
@@ -26,244 +27,272 @@ pub fn front(bytes: &[u8], n: usize) -> &[u8]
 }
 
 // A number with no values.
-pub fn put_number(out: &mut [u8], at: usize, n: u64) -> usize
+pub fn put_number(to: Stdout, out: &mut [u8], at: usize, n: u64) -> usize
     requires { Ready at out.old }
     ensures { Tells (answer_line n []) out.old at out.new result }
 {
-    let a = put_decimal(&mut *out, at, n);
-    put(&mut *out, a, 10)
+    let a = put_decimal(to, &mut *out, at, n);
+    put(to, &mut *out, a, 10)
 }
 
 // A number with a length, a count or a universe.
-pub fn put_value(out: &mut [u8], at: usize, n: u64, value: u64) -> usize
+pub fn put_value(to: Stdout, out: &mut [u8], at: usize, n: u64, value: u64) -> usize
     requires { Ready at out.old }
     ensures { Tells (answer_line n (number value ∷ [])) out.old at out.new result }
 {
-    let a = put_decimal(&mut *out, at, n);
-    let b = put(&mut *out, a, 32);
-    put_number(&mut *out, b, value)
+    let a = put_decimal(to, &mut *out, at, n);
+    let b = put(to, &mut *out, a, 32);
+    put_number(to, &mut *out, b, value)
 }
 
 // 0 with a yes or no.
-pub fn put_flag(out: &mut [u8], at: usize, on: bool) -> usize
+pub fn put_flag(to: Stdout, out: &mut [u8], at: usize, on: bool) -> usize
     requires { Ready at out.old }
     ensures { Tells (flag_line on) out.old at out.new result }
 {
     if on {
-        return put_value(&mut *out, at, 0, 1);
+        return put_value(to, &mut *out, at, 0, 1);
     }
-    put_value(&mut *out, at, 0, 0)
+    put_value(to, &mut *out, at, 0, 0)
 }
 
 // A number with a source and a universe.
-fn put_pair(out: &mut [u8], at: usize, n: u64, cid: Cid, universe: u16) -> usize
+fn put_pair(to: Stdout, out: &mut [u8], at: usize, n: u64, cid: Cid, universe: u16) -> usize
     requires { Ready at out.old }
     ensures { Tells (answer_line n (source cid ∷ number universe ∷ [])) out.old at out.new result }
 {
-    let a = put_decimal(&mut *out, at, n);
-    let b = put(&mut *out, a, 32);
-    let d = put_cid(&mut *out, b, cid);
-    let e = put(&mut *out, d, 32);
-    put_number(&mut *out, e, universe as u64)
+    let a = put_decimal(to, &mut *out, at, n);
+    let b = put(to, &mut *out, a, 32);
+    let d = put_cid(to, &mut *out, b, cid);
+    let e = put(to, &mut *out, d, 32);
+    put_number(to, &mut *out, e, universe as u64)
 }
 
 // A number with the arriving sequence number, the last and the difference.
-fn put_sequence(out: &mut [u8], at: usize, n: u64, arriving: u8, last: u8, difference: i8) -> usize
+fn put_sequence(
+    to: Stdout,
+    out: &mut [u8],
+    at: usize,
+    n: u64,
+    arriving: u8,
+    last: u8,
+    difference: i8,
+) -> usize
     requires { Ready at out.old }
     ensures { Tells (answer_line n (number arriving ∷ number last ∷ integer difference ∷ [])) out.old at
         out.new result }
 {
-    let a = put_decimal(&mut *out, at, n);
-    let b = put(&mut *out, a, 32);
-    let d = put_decimal(&mut *out, b, arriving as u64);
-    let e = put(&mut *out, d, 32);
-    let f = put_decimal(&mut *out, e, last as u64);
-    let g = put(&mut *out, f, 32);
-    let h = put_signed(&mut *out, g, difference);
-    put(&mut *out, h, 10)
+    let a = put_decimal(to, &mut *out, at, n);
+    let b = put(to, &mut *out, a, 32);
+    let d = put_decimal(to, &mut *out, b, arriving as u64);
+    let e = put(to, &mut *out, d, 32);
+    let f = put_decimal(to, &mut *out, e, last as u64);
+    let g = put(to, &mut *out, f, 32);
+    let h = put_signed(to, &mut *out, g, difference);
+    put(to, &mut *out, h, 10)
 }
 
 // A number with a byte string.
-fn put_named(out: &mut [u8], at: usize, n: u64, bytes: &[u8]) -> usize
+fn put_named(to: Stdout, out: &mut [u8], at: usize, n: u64, bytes: &[u8]) -> usize
     requires { Ready at out.old }
     ensures { Tells (answer_line n (name «bytes».now ∷ [])) out.old at out.new result }
 {
-    let a = put_decimal(&mut *out, at, n);
-    let b = put(&mut *out, a, 32);
-    let d = put_byte_string(&mut *out, b, bytes);
-    put(&mut *out, d, 10)
+    let a = put_decimal(to, &mut *out, at, n);
+    let b = put(to, &mut *out, a, 32);
+    let d = put_byte_string(to, &mut *out, b, bytes);
+    put(to, &mut *out, d, 10)
 }
 
 // A release: records, bytes and the bytes themselves.
-fn put_release(out: &mut [u8], at: usize, records: usize, bytes: usize, released: &[u8]) -> usize
+fn put_release(
+    to: Stdout,
+    out: &mut [u8],
+    at: usize,
+    records: usize,
+    bytes: usize,
+    released: &[u8],
+) -> usize
     requires { Ready at out.old }
     ensures { Tells (release_line records bytes released.now) out.old at out.new result }
 {
-    let a = put_text(&mut *out, at, b"0 release ");
-    let b = put_decimal(&mut *out, a, records as u64);
-    let d = put(&mut *out, b, 32);
-    let e = put_decimal(&mut *out, d, bytes as u64);
-    let f = put(&mut *out, e, 32);
-    let g = put_hex(&mut *out, f, front(released, bytes));
-    put(&mut *out, g, 10)
+    let a = put_text(to, &mut *out, at, b"0 release ");
+    let b = put_decimal(to, &mut *out, a, records as u64);
+    let d = put(to, &mut *out, b, 32);
+    let e = put_decimal(to, &mut *out, d, bytes as u64);
+    let f = put(to, &mut *out, e, 32);
+    let g = put_hex(to, &mut *out, f, front(released, bytes));
+    put(to, &mut *out, g, 10)
 }
 
-pub fn put_step(out: &mut [u8], at: usize, answer: StepAnswer, own: &[u8], released: &[u8]) -> usize
+pub fn put_step(
+    to: Stdout,
+    out: &mut [u8],
+    at: usize,
+    answer: StepAnswer,
+    own: &[u8],
+    released: &[u8],
+) -> usize
     requires { Ready at out.old }
     ensures { Tells (step_line own.now released.now answer) out.old at out.new result }
 {
     match answer {
-        StepAnswer::Nothing => put_number(out, at, 0),
-        StepAnswer::Released(records, bytes) => put_release(out, at, records, bytes, released),
-        StepAnswer::TooLong(n) => put_value(out, at, 1, n as u64),
-        StepAnswer::IllegalUniverse(u) => put_value(out, at, 2, u as u64),
-        StepAnswer::UniverseTimeout(c, u) => put_pair(out, at, 4, c, u),
-        StepAnswer::UniverseTerminated(c, u) => put_pair(out, at, 5, c, u),
-        StepAnswer::SourcesExceeded(n) => put_value(out, at, 6, n as u64),
-        StepAnswer::OutOfSequence(a, l, d) => put_sequence(out, at, 7, a, l, d),
-        StepAnswer::DmxMergeError => put_number(out, at, 8),
-        StepAnswer::SourceDiscovered => put_named(out, at, 9, own),
-        StepAnswer::PairsFull => put_number(out, at, 10),
-        StepAnswer::ListenedFull => put_number(out, at, 11),
-        StepAnswer::WaitingFull => put_number(out, at, 12),
-        StepAnswer::PagesFull => put_number(out, at, 13),
-        StepAnswer::TooShort(n) => put_value(out, at, 15, n as u64),
-        StepAnswer::Repeated(a, l, d) => put_sequence(out, at, 21, a, l, d),
+        StepAnswer::Nothing => put_number(to, out, at, 0),
+        StepAnswer::Released(records, bytes) => put_release(to, out, at, records, bytes, released),
+        StepAnswer::TooLong(n) => put_value(to, out, at, 1, n as u64),
+        StepAnswer::IllegalUniverse(u) => put_value(to, out, at, 2, u as u64),
+        StepAnswer::UniverseTimeout(c, u) => put_pair(to, out, at, 4, c, u),
+        StepAnswer::UniverseTerminated(c, u) => put_pair(to, out, at, 5, c, u),
+        StepAnswer::SourcesExceeded(n) => put_value(to, out, at, 6, n as u64),
+        StepAnswer::OutOfSequence(a, l, d) => put_sequence(to, out, at, 7, a, l, d),
+        StepAnswer::DmxMergeError => put_number(to, out, at, 8),
+        StepAnswer::SourceDiscovered => put_named(to, out, at, 9, own),
+        StepAnswer::PairsFull => put_number(to, out, at, 10),
+        StepAnswer::ListenedFull => put_number(to, out, at, 11),
+        StepAnswer::WaitingFull => put_number(to, out, at, 12),
+        StepAnswer::PagesFull => put_number(to, out, at, 13),
+        StepAnswer::TooShort(n) => put_value(to, out, at, 15, n as u64),
+        StepAnswer::Repeated(a, l, d) => put_sequence(to, out, at, 21, a, l, d),
     }
 }
 
-pub fn put_poll(out: &mut [u8], at: usize, answer: PollAnswer) -> usize
+pub fn put_poll(to: Stdout, out: &mut [u8], at: usize, answer: PollAnswer) -> usize
     requires { Ready at out.old }
     ensures { Tells (answer_line (poll_number answer) (poll_values answer)) out.old at out.new result }
 {
     match answer {
-        PollAnswer::Polled => put_number(out, at, 0),
-        PollAnswer::UniverseTimeout(c, u) => put_pair(out, at, 4, c, u),
-        PollAnswer::TooShort(n) => put_value(out, at, 15, n as u64),
+        PollAnswer::Polled => put_number(to, out, at, 0),
+        PollAnswer::UniverseTimeout(c, u) => put_pair(to, out, at, 4, c, u),
+        PollAnswer::TooShort(n) => put_value(to, out, at, 15, n as u64),
     }
 }
 
-pub fn put_expiry(out: &mut [u8], at: usize, answer: ExpiryAnswer) -> usize
+pub fn put_expiry(to: Stdout, out: &mut [u8], at: usize, answer: ExpiryAnswer) -> usize
     requires { Ready at out.old }
     ensures { Tells (answer_line (expiry_number answer) (expiry_values answer)) out.old at out.new result }
 {
     match answer {
-        ExpiryAnswer::Swept => put_number(out, at, 0),
-        ExpiryAnswer::TooShort(n) => put_value(out, at, 15, n as u64),
+        ExpiryAnswer::Swept => put_number(to, out, at, 0),
+        ExpiryAnswer::TooShort(n) => put_value(to, out, at, 15, n as u64),
     }
 }
 
-pub fn put_listen(out: &mut [u8], at: usize, answer: ListenAnswer) -> usize
+pub fn put_listen(to: Stdout, out: &mut [u8], at: usize, answer: ListenAnswer) -> usize
     requires { Ready at out.old }
     ensures { Tells (answer_line (listen_number answer) (listen_values answer)) out.old at out.new result }
 {
     match answer {
-        ListenAnswer::Listening => put_number(out, at, 0),
-        ListenAnswer::IllegalUniverse(u) => put_value(out, at, 2, u as u64),
-        ListenAnswer::ListenedFull => put_number(out, at, 11),
+        ListenAnswer::Listening => put_number(to, out, at, 0),
+        ListenAnswer::IllegalUniverse(u) => put_value(to, out, at, 2, u as u64),
+        ListenAnswer::ListenedFull => put_number(to, out, at, 11),
     }
 }
 
-pub fn put_mute(out: &mut [u8], at: usize, answer: MuteAnswer) -> usize
+pub fn put_mute(to: Stdout, out: &mut [u8], at: usize, answer: MuteAnswer) -> usize
     requires { Ready at out.old }
     ensures { Tells (answer_line (mute_number answer) (mute_values answer)) out.old at out.new result }
 {
     match answer {
-        MuteAnswer::Muted => put_number(out, at, 0),
-        MuteAnswer::IllegalUniverse(u) => put_value(out, at, 2, u as u64),
-        MuteAnswer::UniverseNotRegistered(u) => put_value(out, at, 3, u as u64),
+        MuteAnswer::Muted => put_number(to, out, at, 0),
+        MuteAnswer::IllegalUniverse(u) => put_value(to, out, at, 2, u as u64),
+        MuteAnswer::UniverseNotRegistered(u) => put_value(to, out, at, 3, u as u64),
     }
 }
 
-pub fn put_clear(out: &mut [u8], at: usize, answer: ClearAnswer) -> usize
+pub fn put_clear(to: Stdout, out: &mut [u8], at: usize, answer: ClearAnswer) -> usize
     requires { Ready at out.old }
     ensures { Tells (answer_line (clear_number answer) (clear_values answer)) out.old at out.new result }
 {
     match answer {
-        ClearAnswer::Cleared(held) => put_flag(out, at, held),
-        ClearAnswer::TooShort(n) => put_value(out, at, 15, n as u64),
+        ClearAnswer::Cleared(held) => put_flag(to, out, at, held),
+        ClearAnswer::TooShort(n) => put_value(to, out, at, 15, n as u64),
     }
 }
 
-pub fn put_setting(out: &mut [u8], at: usize, answer: SettingAnswer) -> usize
+pub fn put_setting(to: Stdout, out: &mut [u8], at: usize, answer: SettingAnswer) -> usize
     requires { Ready at out.old }
     ensures { Tells (answer_line (number_of answer) (values_of answer)) out.old at out.new result }
 {
     match answer {
-        SettingAnswer::Set => put_number(out, at, 0),
-        SettingAnswer::LimitZero => put_number(out, at, 14),
-        SettingAnswer::ExpiryOutOfRange => put_number(out, at, 20),
+        SettingAnswer::Set => put_number(to, out, at, 0),
+        SettingAnswer::LimitZero => put_number(to, out, at, 14),
+        SettingAnswer::ExpiryOutOfRange => put_number(to, out, at, 20),
     }
 }
 
 // The writer's answer, with all lent bytes after 0.
-pub fn put_store(out: &mut [u8], at: usize, answer: StoreSettingsAnswer, bytes: &[u8]) -> usize
+pub fn put_store(
+    to: Stdout,
+    out: &mut [u8],
+    at: usize,
+    answer: StoreSettingsAnswer,
+    bytes: &[u8],
+) -> usize
     requires { Ready at out.old }
     ensures { Tells (store_line «bytes».now answer) out.old at out.new result }
 {
     match answer {
-        StoreSettingsAnswer::Stored => put_named(out, at, 0, bytes),
-        StoreSettingsAnswer::TooShort(n) => put_value(out, at, 15, n as u64),
-        StoreSettingsAnswer::LimitZero => put_number(out, at, 14),
-        StoreSettingsAnswer::ExpiryOutOfRange => put_number(out, at, 20),
+        StoreSettingsAnswer::Stored => put_named(to, out, at, 0, bytes),
+        StoreSettingsAnswer::TooShort(n) => put_value(to, out, at, 15, n as u64),
+        StoreSettingsAnswer::LimitZero => put_number(to, out, at, 14),
+        StoreSettingsAnswer::ExpiryOutOfRange => put_number(to, out, at, 20),
     }
 }
 
-pub fn put_load(out: &mut [u8], at: usize, answer: LoadSettingsAnswer) -> usize
+pub fn put_load(to: Stdout, out: &mut [u8], at: usize, answer: LoadSettingsAnswer) -> usize
     requires { Ready at out.old }
     ensures { Tells (answer_line (load_number answer) (load_values answer)) out.old at out.new result }
 {
     match answer {
-        LoadSettingsAnswer::Loaded(_) => put_number(out, at, 0),
-        LoadSettingsAnswer::NoSettingsRecord => put_number(out, at, 22),
-        LoadSettingsAnswer::UnreadableSettingsRecord => put_number(out, at, 23),
+        LoadSettingsAnswer::Loaded(_) => put_number(to, out, at, 0),
+        LoadSettingsAnswer::NoSettingsRecord => put_number(to, out, at, 22),
+        LoadSettingsAnswer::UnreadableSettingsRecord => put_number(to, out, at, 23),
     }
 }
 
-fn put_spaced_bit(out: &mut [u8], at: usize, on: bool) -> usize
+fn put_spaced_bit(to: Stdout, out: &mut [u8], at: usize, on: bool) -> usize
     requires { Ready at out.old }
     ensures { Tells (spaced_bit on) out.old at out.new result }
 {
-    let a = put(&mut *out, at, 32);
-    put_bit(&mut *out, a, on)
+    let a = put(to, &mut *out, at, 32);
+    put_bit(to, &mut *out, a, on)
 }
 
-fn put_merge(out: &mut [u8], at: usize, choice: MergeChoice) -> usize
+fn put_merge(to: Stdout, out: &mut [u8], at: usize, choice: MergeChoice) -> usize
     requires { Ready at out.old }
     ensures { Tells (merge_text choice) out.old at out.new result }
 {
     match choice {
-        MergeChoice::DiscardLowestPriorityThenPrevious => put_text(out, at, b"priority"),
-        MergeChoice::HtpDmxMerge => put_text(out, at, b"highest"),
+        MergeChoice::DiscardLowestPriorityThenPrevious => put_text(to, out, at, b"priority"),
+        MergeChoice::HtpDmxMerge => put_text(to, out, at, b"highest"),
     }
 }
 
-fn put_limit(out: &mut [u8], at: usize, limit: SourceLimit) -> usize
+fn put_limit(to: Stdout, out: &mut [u8], at: usize, limit: SourceLimit) -> usize
     requires { Ready at out.old }
     ensures { Tells (limit_text limit) out.old at out.new result }
 {
     match limit {
-        SourceLimit::Unlimited => put_text(out, at, b"none"),
-        SourceLimit::AtMost(n) => put_decimal(out, at, n as u64),
+        SourceLimit::Unlimited => put_text(to, out, at, b"none"),
+        SourceLimit::AtMost(n) => put_decimal(to, out, at, n as u64),
     }
 }
 
 // 0 and every setting.
-pub fn put_settings(out: &mut [u8], at: usize, settings: Settings) -> usize
+pub fn put_settings(to: Stdout, out: &mut [u8], at: usize, settings: Settings) -> usize
     requires { Ready at out.old }
     ensures { Tells (settings_line settings) out.old at out.new result }
 {
     let merge = settings.merge;
     let limit = settings.source_limit;
-    let a = put(&mut *out, at, 48);
-    let b = put_spaced_bit(&mut *out, a, settings.process_preview_data);
-    let d = put_spaced_bit(&mut *out, b, settings.announce_source_discovery);
-    let e = put_spaced_bit(&mut *out, d, settings.announce_stream_termination);
-    let f = put_spaced_bit(&mut *out, e, settings.announce_timeout);
-    let g = put(&mut *out, f, 32);
-    let h = put_merge(&mut *out, g, merge);
-    let i = put(&mut *out, h, 32);
-    let j = put_limit(&mut *out, i, limit);
-    let k = put(&mut *out, j, 32);
-    put_number(&mut *out, k, settings.discovery_expiry as u64)
+    let a = put(to, &mut *out, at, 48);
+    let b = put_spaced_bit(to, &mut *out, a, settings.process_preview_data);
+    let d = put_spaced_bit(to, &mut *out, b, settings.announce_source_discovery);
+    let e = put_spaced_bit(to, &mut *out, d, settings.announce_stream_termination);
+    let f = put_spaced_bit(to, &mut *out, e, settings.announce_timeout);
+    let g = put(to, &mut *out, f, 32);
+    let h = put_merge(to, &mut *out, g, merge);
+    let i = put(to, &mut *out, h, 32);
+    let j = put_limit(to, &mut *out, i, limit);
+    let k = put(to, &mut *out, j, 32);
+    put_number(to, &mut *out, k, settings.discovery_expiry as u64)
 }

@@ -3,14 +3,14 @@ ghost use Rattle.std.specs.Prelude.{◌≡◌, [], ◌∷◌, ◌≤◌, ◌<◌
 ghost use Rattle.printing.specs.Text.{decimal_of, signed_of, bit_of, hex_text, cid_text, byte_text, tail_text, list_text, marked, Ready, Tells};
 ghost use Rattle.io.specs.Digits.{hex_digit_ascii as Digits·glyph};
 
-use libc::STDOUT_FILENO;
 use rules::Cid;
+use std::io::Stdout;
 
-// The first bytes of the buffer go out; answers whether all of them did. io promises nothing of what it writes, so no more is promised here.
-pub fn flush(out: &[u8], at: usize) -> bool
+// The first bytes of the buffer go out; answers whether all of them did. std promises nothing of what it writes, so no more is promised here.
+pub fn flush(to: Stdout, out: &[u8], at: usize) -> bool
     requires { at ≤ length out.now }
 {
-    io::write_all(STDOUT_FILENO, &out[..at])
+    to.write_all(&out[..at]).is_ok()
 }
 
 // Has a write failed on the way.
@@ -21,7 +21,7 @@ pub fn has_failed(out: &[u8]) -> bool
     out[out.len() - 1] != 0
 }
 
-pub fn put(out: &mut [u8], at: usize, b: u8) -> usize
+pub fn put(to: Stdout, out: &mut [u8], at: usize, b: u8) -> usize
     requires { Ready at out.old }
     ensures { Tells (b ∷ []) out.old at out.new result }
 {
@@ -30,7 +30,7 @@ pub fn put(out: &mut [u8], at: usize, b: u8) -> usize
         out[at] = b;
         return at + 1;
     }
-    if flush(&*out, at) {
+    if flush(to, &*out, at) {
         out[0] = b;
         return 1;
     }
@@ -39,48 +39,48 @@ pub fn put(out: &mut [u8], at: usize, b: u8) -> usize
     1
 }
 
-pub fn put_text(out: &mut [u8], at: usize, text: &[u8]) -> usize
+pub fn put_text(to: Stdout, out: &mut [u8], at: usize, text: &[u8]) -> usize
     requires { Ready at out.old }
     ensures { Tells text.now out.old at out.new result }
 {
     let mut n = at;
     let mut i: usize = 0;
     while i < text.len() {
-        n = put(&mut *out, n, text[i]);
+        n = put(to, &mut *out, n, text[i]);
         i += 1;
     }
     n
 }
 
-pub fn put_decimal(out: &mut [u8], at: usize, n: u64) -> usize
+pub fn put_decimal(to: Stdout, out: &mut [u8], at: usize, n: u64) -> usize
     requires { Ready at out.old }
     ensures { Tells (decimal_of n) out.old at out.new result }
 {
     let mut digits = [0u8; 20];
     let k = io::decimal(n, &mut digits);
-    put_text(out, at, &digits[..k])
+    put_text(to, out, at, &digits[..k])
 }
 
-pub fn put_signed(out: &mut [u8], at: usize, n: i8) -> usize
+pub fn put_signed(to: Stdout, out: &mut [u8], at: usize, n: i8) -> usize
     requires { Ready at out.old }
     ensures { Tells (signed_of n) out.old at out.new result }
 {
     let m = rules::magnitude(n) as u64;
     if n < 0 {
-        let a = put(&mut *out, at, 45);
-        return put_decimal(&mut *out, a, m);
+        let a = put(to, &mut *out, at, 45);
+        return put_decimal(to, &mut *out, a, m);
     }
-    put_decimal(&mut *out, at, m)
+    put_decimal(to, &mut *out, at, m)
 }
 
-pub fn put_bit(out: &mut [u8], at: usize, on: bool) -> usize
+pub fn put_bit(to: Stdout, out: &mut [u8], at: usize, on: bool) -> usize
     requires { Ready at out.old }
     ensures { Tells (bit_of on) out.old at out.new result }
 {
     if on {
-        return put(&mut *out, at, 49);
+        return put(to, &mut *out, at, 49);
     }
-    put(&mut *out, at, 48)
+    put(to, &mut *out, at, 48)
 }
 
 fn glyph(digit: u8) -> u8
@@ -90,7 +90,7 @@ fn glyph(digit: u8) -> u8
     if digit < 10 { 48 + digit } else { 87 + digit }
 }
 
-pub fn put_hex(out: &mut [u8], at: usize, bytes: &[u8]) -> usize
+pub fn put_hex(to: Stdout, out: &mut [u8], at: usize, bytes: &[u8]) -> usize
     requires { Ready at out.old }
     ensures { Tells (hex_text bytes.now) out.old at out.new result }
 {
@@ -98,53 +98,53 @@ pub fn put_hex(out: &mut [u8], at: usize, bytes: &[u8]) -> usize
     let mut i: usize = 0;
     while i < bytes.len() {
         let b = bytes[i];
-        n = put(&mut *out, n, glyph(b / 16));
-        n = put(&mut *out, n, glyph(b % 16));
+        n = put(to, &mut *out, n, glyph(b / 16));
+        n = put(to, &mut *out, n, glyph(b % 16));
         i += 1;
     }
     n
 }
 
-pub fn put_cid(out: &mut [u8], at: usize, cid: Cid) -> usize
+pub fn put_cid(to: Stdout, out: &mut [u8], at: usize, cid: Cid) -> usize
     requires { Ready at out.old }
     ensures { Tells (cid_text cid) out.old at out.new result }
 {
     let bytes = cid.to_bytes();
-    put_hex(out, at, &bytes)
+    put_hex(to, out, at, &bytes)
 }
 
-pub fn put_byte_string(out: &mut [u8], at: usize, bytes: &[u8]) -> usize
+pub fn put_byte_string(to: Stdout, out: &mut [u8], at: usize, bytes: &[u8]) -> usize
     requires { Ready at out.old }
     ensures { Tells (byte_text bytes.now) out.old at out.new result }
 {
     if bytes.len() == 0 {
-        return put(&mut *out, at, 45);
+        return put(to, &mut *out, at, 45);
     }
-    put_hex(&mut *out, at, bytes)
+    put_hex(to, &mut *out, at, bytes)
 }
 
 // A comma and a number for each number from this place on.
-fn put_numbers(out: &mut [u8], at: usize, list: &[u16]) -> usize
+fn put_numbers(to: Stdout, out: &mut [u8], at: usize, list: &[u16]) -> usize
     requires { Ready at out.old }
     ensures { Tells (tail_text list.now) out.old at out.new result }
 {
     let mut n = at;
     let mut i: usize = 0;
     while i < list.len() {
-        n = put(&mut *out, n, 44);
-        n = put_decimal(&mut *out, n, list[i] as u64);
+        n = put(to, &mut *out, n, 44);
+        n = put_decimal(to, &mut *out, n, list[i] as u64);
         i += 1;
     }
     n
 }
 
-pub fn put_list(out: &mut [u8], at: usize, list: &[u16]) -> usize
+pub fn put_list(to: Stdout, out: &mut [u8], at: usize, list: &[u16]) -> usize
     requires { Ready at out.old }
     ensures { Tells (list_text list.now) out.old at out.new result }
 {
     if list.len() == 0 {
-        return put(&mut *out, at, 45);
+        return put(to, &mut *out, at, 45);
     }
-    let a = put_decimal(&mut *out, at, list[0] as u64);
-    put_numbers(&mut *out, a, &list[1..])
+    let a = put_decimal(to, &mut *out, at, list[0] as u64);
+    put_numbers(to, &mut *out, a, &list[1..])
 }

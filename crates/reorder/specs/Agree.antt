@@ -1,52 +1,41 @@
 -- The model's step is the ideal one wherever it gives none of 10 to 13, from a state that the runs of demand 3 reach.
 -- Assumes nothing.
-use Rattle.std.specs.Prelude.{◌≡◌, ◌≢◌, Bool, cond, ◌&&◌, ◌||◌, ℕ, suc, ◌≤◌, ◌<◌, ltb, leb, eqb, length}
+use Rattle.std.specs.Prelude.{◌≡◌, ◌≢◌, Bool, cond, ◌&&◌, ℕ, ltb, leb, eqb, length}
 use Rattle.std.proofs.Math.Path.{refl, ap, subst}
 use Rattle.std.proofs.Common.{sym, ◌∙◌, arith, eqb-true, le-ltb}
 use Rattle.std.proofs.Math.Option.{Option, none, some}
 use Rattle.std.proofs.Math.Bool.{true, false, not}
 use mathlib.Core.List.{List, [], ◌∷◌}
-use Rattle.std.proofs.lemmas.Bool.{eqb-false, lt-leb}
+use Rattle.std.proofs.lemmas.Bool.{eqb-false}
 use Rattle.laws.specs.Cases.{split, found, clash}
-use Rattle.laws.specs.Order.{ℕOrder, tri, keyed, Order}
-use Rattle.laws.specs.Table.{find, store, Ascending, find_key, store_known, find_under, under_trans, find_store_same, find_store_other, ascending_store, length_store_new}
+use Rattle.laws.specs.Order.{ℕOrder}
+use Rattle.laws.specs.Table.{find, store, find_key, store_known}
 use Rattle.rules.specs.declared.Cid.{Cid}
-use Rattle.rules.specs.Cid.{same, before}
-use Rattle.rules.proofs.CidLaws.{cid_order, same_path}
-use Rattle.rules.specs.Universe.{legal}
 use Rattle.settings.specs.declared.Settings.{Settings}
 use Rattle.settings.specs.declared.MergeChoice.TheVariants.{HtpDmxMerge}
 use Rattle.settings.specs.declared.SourceLimit.{SourceLimit}
-use Rattle.settings.specs.declared.SourceLimit.TheVariants.{Unlimited, AtMost}
 use Rattle.pairs.specs.declared.Pair.{Pair}
 use Rattle.pairs.specs.declared.Checked.{Checked}
 use Rattle.pairs.specs.declared.Checked.TheVariants as checked
-use Rattle.pairs.specs.Table as pairs
-use Rattle.pairs.specs.Table.{Table, Key, key, key_of, pair_at, has, recorded, without, source_stop, full, sequence_stop, stop, settle, admit, check, sweep, swept, reached}
-use Rattle.pairs.specs.Laws.{GoodTable, cids}
-use Rattle.pairs.proofs.Laws.{refused_either, source_stop_good, check_quiet, swept_quiet, find_cids, ascending_cids, has_keep, has_store, has_remove, without_pairs, swept_swept}
+use Rattle.pairs.specs.Table.{Table, Key, key, key_of, pair_at, has, recorded, without, source_stop, full, sequence_stop, stop, settle, admit, check, swept, reached}
+use Rattle.pairs.specs.Laws.{GoodTable}
+use Rattle.pairs.proofs.Laws.{refused_either, source_stop_good, check_quiet, swept_quiet}
 use Rattle.merge.specs.Merge.{Dmx}
-use Rattle.waiting.specs.declared.StoreAnswer.{StoreAnswer}
-use Rattle.waiting.specs.declared.StoreAnswer.TheVariants as storing
 use Rattle.waiting.specs.Waiting as waiting
-use Rattle.waiting.specs.Laws.{Move, rest, wait, clear, release, move, hold}
-use Rattle.waiting.proofs.Laws.{GoodWaiting}
-use Rattle.waiting.proofs.Laws.{stored_hold}
-use Rattle.discovery.specs.declared.PageAnswer.{PageAnswer}
+use Rattle.waiting.specs.Laws.{wait, clear, move, hold}
+use Rattle.waiting.proofs.Laws.{GoodWaiting, stored_hold}
 use Rattle.discovery.specs.Discovery as discovery
 use Rattle.discovery.specs.Discovery.{Discovered, Announcement, Note, noted, noting, lookup}
 use Rattle.model.specs.declared.StepAnswer.{StepAnswer}
 use Rattle.model.specs.declared.StepAnswer.TheVariants as says
-use Rattle.model.specs.declared.ListenAnswer.{ListenAnswer}
 use Rattle.model.specs.declared.ListenAnswer.TheVariants as listen
 use Rattle.model.specs.Answer.{step_number}
-use Rattle.model.specs.Packet.{DataPacket, SyncPacket, Packet, data_packet, sync_packet, discovery_packet, sender}
-use Rattle.model.specs.State.{State, listens, there, itself}
+use Rattle.model.specs.Packet.{DataPacket, SyncPacket, data_packet}
+use Rattle.model.specs.State.{State, listens, itself}
 use Rattle.model.specs.Invariant.{Heard}
 use Rattle.model.specs.Step as model
 use Rattle.model.specs.Step.{Outcome, outcome}
-use Rattle.reorder.specs.Ideal.{Told, Change, put, drop, change, News, quiet, note, forget, learn, Effect, say, only, apply, polled, unless, if_known, ending, arriving, releasing, data_effect, syncing, sync_effect, discovery_effect, effect, step, Good, FitsPacket}
-use Rattle.reorder.specs.Ideal as ideal
+use Rattle.reorder.specs.Ideal.{Told, drop, change, learn, Effect, say, only, apply, unless, if_known, ending, arriving, releasing, data_effect, syncing, sync_effect, discovery_effect, Good, FitsPacket}
 
 -- what an outcome leaves and tells
 abbrev pub out : Outcome → State × Told

@@ -1,7 +1,7 @@
 -- DEMAND 3, the statement. Its proof is `demand-3` in Proof.antt. Every step in it is the model's own, with every stop in it.
 -- Each field below quotes the sentence of the demand, or of document 01's 'North and South', that it states.
 -- Assumes nothing.
-use Rattle.std.specs.Prelude.{◌≡◌, ◌≢◌, Bool, true, false, cond, List, [], ◌∷◌, map, ℕ, zero, suc, ◌+◌, ◌≤◌, ◌<◌, eqb, length}
+use Rattle.std.specs.Prelude.{◌≡◌, ◌≢◌, true, false, cond, List, [], ◌∷◌, map, ℕ, suc, ◌+◌, ◌≤◌, ◌<◌, eqb, length}
 use Rattle.std.proofs.Math.Option.{Option, none, some}
 use Rattle.std.proofs.Math.ListN.{get_elem?}
 use Rattle.laws.specs.Table.{store}

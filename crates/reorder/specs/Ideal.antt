@@ -1,14 +1,14 @@
 -- The step under the settings of demand 3, without the stops for full tables, as an effect on each part of the state;
 -- packets of different sources at one reading commute, unless one is a synchronisation packet of the other's address.
 -- Assumes nothing.
-use Rattle.std.specs.Prelude.{◌≡◌, ◌≢◌, Bool, true, false, cond, ◌&&◌, List, [], ◌∷◌, ℕ, ltb, eqb, length}
+use Rattle.std.specs.Prelude.{◌≡◌, ◌≢◌, Bool, true, false, cond, ◌&&◌, List, [], ◌∷◌, ℕ, eqb, length}
 use Rattle.std.proofs.Math.Path.{refl, sym, ap}
-use Rattle.std.proofs.Common.{◌∙◌, subst, arith}
+use Rattle.std.proofs.Common.{◌∙◌, subst}
 use Rattle.std.proofs.Math.Option.{Option, none, some}
 use Rattle.std.proofs.Math.Bool.{not}
 use borrow.Author.Tests.{eqb-true, eqb-false}
-use Rattle.laws.specs.Cases.{split, found}
-use Rattle.laws.specs.Table.{keep, find_remove_other}
+use Rattle.laws.specs.Cases.{split}
+use Rattle.laws.specs.Table.{find_remove_other}
 use Rattle.rules.specs.declared.Cid.{Cid}
 use Rattle.settings.specs.declared.Settings.{Settings}
 use Rattle.pairs.specs.declared.Pair.{Pair}
@@ -23,8 +23,7 @@ use Rattle.merge.specs.Laws.{Like}
 use Rattle.waiting.specs.Waiting as waiting
 use Rattle.waiting.specs.Records.{records}
 use Rattle.waiting.specs.Laws.{Move, rest, wait, clear, release, move}
-use Rattle.waiting.proofs.Laws.{GoodWaiting, FitsMove, Apart, FreshMove}
-use Rattle.waiting.proofs.Laws.{good_keep, good_move, move_move, released_move, swept_move}
+use Rattle.waiting.proofs.Laws.{GoodWaiting, FitsMove, Apart, FreshMove, good_keep, good_move, move_move, released_move, swept_move}
 use Rattle.waiting.proofs.Laws as waiting_laws
 use Rattle.discovery.specs.Discovery as discovery
 use Rattle.discovery.specs.Discovery.{Discovered, Announcement, Source, Note, noted, noting, lookup, ended}

@@ -1,30 +1,28 @@
 -- Demand 3 is not vacuous: two desks' data, a synchronisation and a discovery packet in one millisecond, really reordered, meet its premises.
 -- Assumes nothing.
-use Rattle.std.specs.Prelude.{◌≡◌, refl, ◌≢◌, Bool, true, false, List, [], ◌∷◌, map, ℕ, zero, suc, ◌≤◌, ◌<◌, length}
+use Rattle.std.specs.Prelude.{◌≡◌, refl, ◌≢◌, true, false, List, [], ◌∷◌, map, ℕ, zero, suc, ◌≤◌, ◌<◌, length}
 use Rattle.std.proofs.Common.{sym, ap, ◌∙◌, subst, arith}
-use Rattle.std.proofs.Math.Option.{Option, none, some}
+use Rattle.std.proofs.Math.Option.{none, some}
 use Rattle.std.proofs.Math.ListN.{get_elem?}
 use Rattle.laws.specs.Order.{before_by}
 use Rattle.laws.specs.Table.{keep, any, find, store, remove}
 use Rattle.rules.specs.declared.Cid.{Cid}
-use Rattle.rules.specs.Bytes.{big_endian}
 use Rattle.settings.specs.declared.Settings.{Settings}
 use Rattle.settings.specs.declared.MergeChoice.TheVariants.{HtpDmxMerge}
 use Rattle.settings.specs.declared.SourceLimit.TheVariants.{AtMost}
 use Rattle.settings.specs.Settings.{with_merge, with_limit}
 use Rattle.settings.specs.Settings as settings
 use Rattle.pairs.specs.Table as pairs
-use Rattle.merge.specs.Merge.{same_start, mergeable, highest, blended, joined, htp_merge, preferred}
+use Rattle.merge.specs.Merge.{same_start, mergeable, highest, blended, joined, htp_merge}
 use Rattle.waiting.specs.Waiting as waiting
-use Rattle.waiting.specs.Records.{encode, records}
 use Rattle.discovery.specs.Discovery as discovery
 use Rattle.discovery.specs.Discovery.{Announcement}
 use Rattle.model.specs.Packet.{DataPacket, SyncPacket, Packet, data_packet, sync_packet, discovery_packet, sender, over, too_long}
-use Rattle.model.specs.State.{State, fresh, listens}
+use Rattle.model.specs.State.{listens}
 use Rattle.model.specs.Step as model
 use Rattle.model.specs.Step.{Space, too_short}
 use Rattle.model.specs.Calls.{listen_call, muted, mute_call}
-use Rattle.reorder.specs.Demand.{Timed, At, count, Picks, Reordering, MovedPast, Free, Telling, listen, mute, tell, start, Answered, end, answers, DataAt, SyncAt, NeverFalls, counted, sources_of, InLimit, NoneFull, Asked, NeitherFull, Agreed}
+use Rattle.reorder.specs.Demand.{Timed, At, count, Reordering, MovedPast, Free, Telling, listen, mute, tell, start, Answered, answers, DataAt, SyncAt, counted, sources_of, Asked, NeitherFull, Agreed}
 use Rattle.reorder.specs.Reorder.{All}
 use Rattle.reorder.specs.Proof.{demand_3}
 

@@ -1,26 +1,25 @@
 -- Sources and the limit: where every CID that has a pair is one of a list that the limit allows, 6 is never given.
 -- Assumes nothing.
 use Rattle.std.proofs.Math.Path.{◌≡◌}
-use Rattle.std.specs.Prelude.{refl, ◌≢◌, Bool, true, cond, ℕ, suc, ◌≤◌, ◌<◌, leb, length}
-use Rattle.std.proofs.Common.{sym, ap, ◌∙◌, subst}
-use Rattle.std.proofs.Math.Option.{Option, none, some}
+use Rattle.std.specs.Prelude.{refl, Bool, true, ℕ, suc, ◌≤◌, length}
+use Rattle.std.proofs.Common.{sym, ◌∙◌}
+use Rattle.std.proofs.Math.Option.{none, some}
 use Rattle.std.proofs.Math.Bool.{false}
 use mathlib.Core.List.{List, [], ◌∷◌}
 use native.Mathlib.Omega.{arith}
 use Rattle.std.proofs.lemmas.Bool.{lt-leb}
-use Rattle.laws.specs.Cases.{split, found, clash}
+use Rattle.laws.specs.Cases.{split, clash}
 use Rattle.laws.specs.Order.{Order, tri, keyed}
-use Rattle.laws.specs.Table.{find, store, remove, keep, Ascending, find_under, under_trans, find_store_same, find_store_other, ascending_store, length_store_new, remove_keep, other_than}
+use Rattle.laws.specs.Table.{find, store, Ascending, find_under, under_trans, find_store_other, ascending_store, length_store_new, remove_keep, other_than}
 use Rattle.rules.specs.declared.Cid.{Cid}
 use Rattle.rules.specs.Cid.{before}
 use Rattle.rules.proofs.CidLaws.{cid_order, same_path}
 use Rattle.rules.specs.Cid as cid
 use Rattle.settings.specs.declared.SourceLimit.{SourceLimit}
 use Rattle.settings.specs.declared.SourceLimit.TheVariants.{Unlimited, AtMost}
-use Rattle.pairs.specs.declared.Pair.{Pair}
-use Rattle.pairs.specs.Table.{Table, itself, has, swept, recorded, without, reached, key_before, key_of}
+use Rattle.pairs.specs.Table.{Table, itself, has, swept, recorded, key_before, key_of}
 use Rattle.pairs.proofs.TableLaws.{key_order}
-use Rattle.pairs.specs.Laws.{GoodTable, cids}
+use Rattle.pairs.specs.Laws.{GoodTable}
 use Rattle.pairs.proofs.Laws.{find_cids, ascending_cids, has_keep, has_store, without_pairs}
 use Rattle.reorder.specs.Demand.{InLimit}
 use Rattle.reorder.specs.Ideal.{Change, same, put, drop, change, Local}

@@ -1,17 +1,17 @@
 -- Demand 3 proved. The model's run equals the ideal run, since neither gives 10 to 13; in the ideal run packets that are moved past one
 -- another commute; so the general theorem of Reorder.antt applies.
 -- Assumes nothing.
-use Rattle.std.specs.Prelude.{◌≡◌, ◌≢◌, Bool, true, false, cond, not, ◌&&◌, ℕ, zero, suc, ◌+◌, ◌≤◌, ◌<◌, ltb, leb, eqb, length}
+use Rattle.std.specs.Prelude.{◌≡◌, ◌≢◌, Bool, true, false, cond, ◌&&◌, ℕ, zero, suc, ◌+◌, ◌≤◌, ◌<◌, leb, eqb, length}
 use Rattle.std.proofs.Math.Path.{refl, sym, ap, subst}
-use Rattle.std.proofs.Common.{◌∙◌, eqb-true, eq-eqb, ltb-false, leb-true}
+use Rattle.std.proofs.Common.{◌∙◌, eqb-true, eq-eqb, leb-true}
 use Rattle.std.proofs.Math.Option.{Option, none, some}
-use mathlib.Core.List.{List, [], ◌∷◌, map}
+use mathlib.Core.List.{List, [], ◌∷◌}
 use native.Mathlib.Omega.{arith}
 use Rattle.std.proofs.Math.ListN.{get_elem?}
 use Rattle.std.proofs.lemmas.Bool.{eqb-false}
 use Rattle.laws.specs.Cases.{split, found, clash, missing}
-use Rattle.laws.specs.Order.{ℕOrder, keyed, tri}
-use Rattle.laws.specs.Table.{any, find, store, remove, Ascending, find_store_same, find_store_other, ascending_store, ascending_remove, length_remove, find_remove_other, find_remove_same}
+use Rattle.laws.specs.Order.{keyed}
+use Rattle.laws.specs.Table.{any, store, Ascending, find_store_same, find_store_other, ascending_store}
 use Rattle.rules.specs.declared.Cid.{Cid}
 use Rattle.rules.specs.Cid.{before}
 use Rattle.rules.proofs.CidLaws.{cid_order}
@@ -20,30 +20,24 @@ use Rattle.settings.specs.declared.MergeChoice.TheVariants.{HtpDmxMerge}
 use Rattle.pairs.specs.Table as pairs
 use Rattle.pairs.specs.Table.{Table, has, swept, itself}
 use Rattle.pairs.specs.Laws.{GoodTable}
-use Rattle.pairs.proofs.Laws.{good_empty, swept_swept, swept_quiet}
+use Rattle.pairs.proofs.Laws.{good_empty}
 use Rattle.merge.specs.Merge.{Dmx}
-use Rattle.merge.specs.Laws.{Like}
 use Rattle.waiting.specs.Records.{records}
-use Rattle.waiting.proofs.Laws.{GoodWaiting}
-use Rattle.waiting.proofs.Laws.{good_none}
-use Rattle.discovery.specs.Discovery.{lookup}
-use Rattle.model.specs.declared.StepAnswer.{StepAnswer}
+use Rattle.waiting.proofs.Laws.{GoodWaiting, good_none}
 use Rattle.model.specs.declared.StepAnswer.TheVariants as says
-use Rattle.model.specs.declared.ListenAnswer.{ListenAnswer}
 use Rattle.model.specs.Answer.{step_number, step_values}
-use Rattle.model.specs.Packet.{DataPacket, SyncPacket, Packet, data_packet, sync_packet, discovery_packet, sender, too_long}
-use Rattle.model.specs.State.{State, fresh, listens, there}
-use Rattle.model.specs.State as state
+use Rattle.model.specs.Packet.{DataPacket, SyncPacket, Packet, data_packet, sync_packet, discovery_packet, too_long}
+use Rattle.model.specs.State.{State, fresh, listens}
 use Rattle.model.specs.Step as model
 use Rattle.model.specs.Step.{Space, Outcome, outcome, too_short}
 use Rattle.model.specs.Calls.{listen_call, mute_call}
 use Rattle.model.specs.Invariant.{Heard}
 use Rattle.model.proofs.InvariantLaws.{listen_heard, mute_heard, heard_fresh}
-use Rattle.reorder.specs.Demand.{Timed, At, Picks, Reordering, MovedPast, Free, Telling, listen, mute, tell, start, name_of, Answered, answered, outcome_of, end, answers, DataAt, SyncAt, counted, sources_of, InLimit, NoneFull, Asked, NeitherFull, EndAlike, Agreed, Demand3}
+use Rattle.reorder.specs.Demand.{Timed, At, Picks, MovedPast, Telling, listen, mute, tell, start, name_of, Answered, answered, outcome_of, end, answers, DataAt, SyncAt, counted, sources_of, InLimit, NoneFull, Asked, NeitherFull, Agreed, Demand3}
 use Rattle.reorder.specs.Reorder.{Commutes, All, at_all, guarded, passes, fails, guarded_commutes, as_ideal}
 use Rattle.reorder.specs.Reorder as reorder
-use Rattle.reorder.specs.Ideal.{Told, say, Effect, apply, effect, polled, step, Same, Good, Fits, FitsPacket, Indep, Sound, sound, good_apply, good_polled, polled_polled, commutes, change, Local, discovery_effect}
-use Rattle.reorder.specs.Agree.{out, done, capped, Room, zero_not_taken, data_agree, sync_agree, discovery_agree}
+use Rattle.reorder.specs.Ideal.{Told, say, apply, effect, polled, step, Same, Good, Fits, FitsPacket, Indep, Sound, sound, good_apply, good_polled, polled_polled, commutes, change, discovery_effect}
+use Rattle.reorder.specs.Agree.{out, done, capped, zero_not_taken, data_agree, sync_agree, discovery_agree}
 use Rattle.reorder.specs.Limit.{In, Within, room, within_swept, within_change}
 
 -- ── what a fresh receiver can be told to listen to ──

@@ -1,13 +1,13 @@
 -- The four lent parts of both tables in a contract: the rows that a call finds, and those that it leaves.
 -- Assumes nothing.
-use Rattle.std.specs.Borrow.{Bor}
+use Rattle.std.specs.Borrow.{MutBor}
 use denote.Triple.Both.{Both}
-use Rattle.laws.specs.Lent.{Part}
+use Rattle.pair_tables.specs.Promises.{Part}
 use Rattle.pair_rows.specs.View.{Rows}
 use Rattle.sequences.specs.View.{Lent, lent}
 
 -- when a call begins
-abbrev pub sequence_rows_in : Bor Rows → Bor Rows → Bor Rows → Bor Rows → Lent
+abbrev pub sequence_rows_in : MutBor Rows → MutBor Rows → MutBor Rows → MutBor Rows → Lent
 sequence_rows_in dp ds sp ss = lent dp.now ds.now sp.now ss.now
 
 -- at entry and at exit

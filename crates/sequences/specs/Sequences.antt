@@ -1,8 +1,7 @@
 -- The two pair tables together, as the crate's `SequenceNumbering` holds them: one for data, one for synchronisation.
 -- Assumes nothing.
-use Rattle.std.specs.Prelude.{Bool, true, false, cond, List, ℕ}
+use Rattle.std.specs.Prelude.{Bool, cond, ℕ}
 use Rattle.std.proofs.Math.Option.{Option, none, some}
-use Rattle.pairs.specs.declared.Pair.{Pair}
 use Rattle.pairs.specs.Table.{Table, Key, pair_at, sweep, without, unknown}
 
 pub record Numbers : Type 0 where

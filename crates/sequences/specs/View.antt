@@ -1,9 +1,9 @@
 -- What the header and the lent rows of both tables stand for, and what each call promises of them.
 -- Assumes nothing.
-use Rattle.std.specs.Prelude.{◌≡◌, Bool, true, false, cond, ◌&&◌, ℕ, length}
-use Rattle.std.proofs.Math.Option.{Option, none, some}
+use Rattle.std.specs.Prelude.{◌≡◌, Bool, ◌&&◌, ℕ}
+use Rattle.std.proofs.Math.Option.{Option}
 use Rattle.pairs.specs.declared.SweepAnswer.{SweepAnswer}
-use Rattle.pairs.specs.Table.{Table, Key, empty}
+use Rattle.pairs.specs.Table.{Table, Key}
 use Rattle.pairs.specs.Answers.{answer_of}
 use Rattle.pair_rows.specs.View.{Rows}
 use Rattle.pair_tables.specs.View as tables

@@ -1,4 +1,7 @@
 // Both pair tables, as the crate's `SequenceNumbering`: data and synchronisation are counted apart.
+
+#![tactic(auto)]
+
 ghost use Rattle.std.specs.Prelude.{◌≡◌, ◌≤◌, length};
 ghost use Rattle.pairs.specs.Table.{key};
 ghost use Rattle.sequences.specs.Sequences.{timeouts, removed};

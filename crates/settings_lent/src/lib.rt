@@ -1,4 +1,7 @@
 // Document 01, 'Settings': "The setters change a small settings record lent to them." Each stores what the setter by value hands back.
+
+#![tactic(auto)]
+
 ghost use Rattle.std.specs.Prelude.{◌≡◌};
 ghost use Rattle.settings.specs.Settings.{with_preview, with_discovery, with_termination, with_timeout, with_merge, without_limit, limited, expiring, Keeps};
 

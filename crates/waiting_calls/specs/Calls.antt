@@ -10,7 +10,7 @@ use Rattle.std.proofs.Math.Dec.{ltb}
 use Rattle.std.proofs.Math.ListN.{get_or-eq_default}
 use Rattle.std.proofs.lemmas.Bool.{lt-leb}
 use Rattle.laws.specs.Cases.{split, clash}
-use Rattle.laws.specs.Lent.{Part}
+use Rattle.waiting_store.specs.Promises.{Part}
 use Rattle.laws.specs.Order.{ℕOrder}
 use Rattle.laws.specs.Table.{keep, any, store as put, remove, Ascending, keep_all, remove_absent}
 use Rattle.laws.specs.Place.{prefix, prefix_le, place, insert_at, remove_at, absent_end, absent, present, store_insert, store_replace, remove_place}

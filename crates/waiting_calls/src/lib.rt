@@ -1,4 +1,7 @@
 // Document 01, 'Waiting data': the calls over data that waits for the synchronisation of its address.
+
+#![tactic(auto)]
+
 ghost use Rattle.std.specs.Prelude.{◌≡◌, List, ℕ, ◌≤◌, length, get_or};
 ghost use Rattle.merge.specs.Views.{dmx};
 ghost use Rattle.waiting.specs.Waiting.{capacity, cleared};

@@ -4,7 +4,7 @@ use Rattle.std.specs.Prelude.{◌≡◌, refl, Bool, true, false, List, [], ℕ,
 use Rattle.std.proofs.Common.{sym, ◌∙◌, arith, length-take}
 use Rattle.std.proofs.Math.Option.{Option, none, some}
 use Rattle.std.proofs.lemmas.List.{set-get_or}
-use Rattle.laws.specs.Lent.{Part}
+use Rattle.waiting_store.specs.Promises.{Part}
 use Rattle.settings.specs.declared.MergeChoice.TheVariants.{DiscardLowestPriorityThenPrevious, HtpDmxMerge}
 use Rattle.merge.specs.declared.DmxData.{DmxData}
 use Rattle.merge.specs.declared.HtpAnswer.{HtpAnswer}
@@ -13,8 +13,7 @@ use Rattle.merge.specs.declared.Choice.TheVariants.{Older, Newer, TooLong}
 use Rattle.merge.specs.Merge.{Dmx, most_values, joined, htp_merge, preferred, htp_answer, htp_output, choice}
 use Rattle.merge.proofs.Laws.{joined_fits}
 use Rattle.merge.specs.Views.{dmx}
-use Rattle.merge.proofs.AnswersLaws.{htp_fits, htp_roomy, htp_refuses, htp_merges}
-use Rattle.merge.proofs.AnswersLaws.{older_preferred, newer_preferred, choice_fits, htp_values}
+use Rattle.merge.proofs.AnswersLaws.{older_preferred, newer_preferred, choice_fits, htp_fits, htp_roomy, htp_refuses, htp_merges, htp_values}
 use Rattle.waiting.specs.Waiting.{merged, held, capacity}
 use Rattle.waiting_store.specs.Entries.{count_of, entries, nothing, Room, lent_none, entry_at}
 use Rattle.waiting_store.specs.Posts.{Changed}

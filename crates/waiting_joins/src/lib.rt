@@ -1,4 +1,7 @@
 // A packet joined with the entry that waits for its universe, by the merge choice.
+
+#![tactic(auto)]
+
 ghost use Rattle.std.specs.Prelude.{◌≤◌, ◌<◌, length, get_or, set};
 ghost use Rattle.merge.specs.Merge.{htp_merge, preferred, most_values};
 ghost use Rattle.merge.specs.Views.{dmx};

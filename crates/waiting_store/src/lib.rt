@@ -1,5 +1,8 @@
 // Waiting data in lent memory: a row and a block of bytes for each entry, the passes over entries, and the records of a release in
 // the output.
+
+#![tactic(auto)]
+
 ghost use Rattle.std.specs.Prelude.{◌≡◌, ◌≢◌, not, ◌++◌, ◌+◌, ◌-◌, ◌≤◌, ◌<◌, eqb, length, take, drop, get_or, set};
 ghost use Rattle.laws.specs.Table.{any, keep};
 ghost use Rattle.laws.specs.Place.{prefix, insert_at, remove_at};
@@ -9,7 +12,7 @@ ghost use Rattle.merge.specs.Views.{dmx};
 ghost use Rattle.waiting.specs.Waiting.{capacity, released};
 ghost use Rattle.rules.specs.Bytes.{bit};
 ghost use Rattle.waiting.specs.Records.{most_bytes};
-ghost use Rattle.waiting_store.specs.Entries.{head_of, count_of, owner_of, row_of, nothing, Room};
+ghost use Rattle.waiting_store.specs.Entries.{head_of, count_of, owner_of, entries, row_of, nothing, Room};
 ghost use Rattle.waiting_store.specs.Posts.{Rowed, below, Apart, retained, Sought};
 ghost use Rattle.waiting_store.specs.Promises.{entries_before, Become, FirstBecome};
 ghost use Rattle.waiting_store.specs.Written.{front_bytes, back_bytes, due, Laid, Writing};
@@ -404,7 +407,7 @@ pub fn write_release(
     out: &mut [u8],
 ) -> Written
     requires { Room rows.now store.now × (n ≤ capacity) × (most_bytes ≤ length out.old) }
-    ensures { let es = entries_before rows store in
+    ensures { let es = entries rows.now store.now in
         Writing (released reading address (take n es)) out.old out.new result.records result.bytes }
 {
     let mut i: usize = 0;

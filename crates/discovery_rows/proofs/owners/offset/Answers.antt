@@ -1,13 +1,13 @@
 -- The sum so far is that of the rows passed; each adds at most 512.
 -- Assumes nothing.
-use mathlib.Core.Path.{◌≡◌, ap, ◌∙◌}
-use Prim.Native.Nat.{ℕ, ◌≤◌, ◌-◌, ◌*◌}
 use native.Mathlib.Omega.{arith}
-use lib.ListN.{take}
 use Rattle.discovery_rows.specs.Rows.{total, total_more, few_at}
 use borrow.Author.Rules.{rules}
-use Rattle.discovery.specs.Discovery.{most_universes}
 use Rattle.discovery_rows.proofs.owners.offset.Goals as goal
+
+pub loop-i-init : goal.loop-i-init
+unfolding total
+loop-i-init c = search rules
 
 pub overflow_add-sum : goal.overflow_add-sum
 overflow_add-sum c =

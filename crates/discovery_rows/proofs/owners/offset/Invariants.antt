@@ -1,11 +1,9 @@
 -- The sum so far is that of the rows passed; each adds at most 512.
 -- Assumes nothing.
-use mathlib.Core.Path.{◌≡◌, ap, ◌∙◌}
-use Prim.Native.Nat.{ℕ, ◌≤◌, ◌-◌, ◌*◌}
-use native.Mathlib.Omega.{arith}
+use mathlib.Core.Path.{◌≡◌}
+use Prim.Native.Nat.{◌≤◌, ◌-◌, ◌*◌}
 use lib.ListN.{take}
-use Rattle.discovery_rows.specs.Rows.{total, total_more, few_at}
-use borrow.Author.Rules.{rules}
+use Rattle.discovery_rows.specs.Rows.{total}
 use Rattle.discovery.specs.Discovery.{most_universes}
 use Rattle.discovery_rows.proofs.owners.offset.Given as goal
 

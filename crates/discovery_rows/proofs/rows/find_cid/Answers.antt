@@ -3,14 +3,12 @@
 use mathlib.Core.Path.{◌≡◌, sym, ◌∙◌}
 use mathlib.Core.Bool.{true, false, not}
 use mathlib.Core.List.{[]}
-use Prim.Native.Nat.{◌≤◌, ◌-◌, ◌+◌}
 use native.Mathlib.Omega.{arith}
-use lib.ListN.{take, drop, get_or}
+use lib.ListN.{get_or}
 use Rattle.laws.specs.Place.{prefix}
 use Rattle.laws.specs.Arrays.{prefix_stays, prefix_goes, spent}
 use Rattle.rules.specs.Cid.{same}
 use Rattle.discovery_rows.specs.Rows.{cid_at}
-use borrow.Author.Rules.{rules}
 use Rattle.discovery_rows.proofs.rows.find_cid.Goals as goal
 
 pub returns-then-is_same : goal.returns-then-is_same

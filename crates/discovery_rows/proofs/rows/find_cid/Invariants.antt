@@ -1,16 +1,12 @@
 -- The walk so far has passed only rows that fail the test: the place is what is passed and what is left of the walk.
 -- Assumes nothing.
-use mathlib.Core.Path.{◌≡◌, sym, ◌∙◌}
-use mathlib.Core.Bool.{true, false, not}
-use mathlib.Core.List.{[]}
+use mathlib.Core.Path.{◌≡◌}
+use mathlib.Core.Bool.{not}
 use Prim.Native.Nat.{◌≤◌, ◌-◌, ◌+◌}
-use native.Mathlib.Omega.{arith}
-use lib.ListN.{take, drop, get_or}
+use lib.ListN.{take, drop}
 use Rattle.laws.specs.Place.{prefix}
-use Rattle.laws.specs.Arrays.{prefix_stays, prefix_goes, spent}
 use Rattle.rules.specs.Cid.{same}
 use Rattle.discovery_rows.specs.Rows.{cid_at}
-use borrow.Author.Rules.{rules}
 use Rattle.discovery_rows.proofs.rows.find_cid.Given as goal
 
 abbrev pub invariant-loop-i : goal.invariant-loop-i

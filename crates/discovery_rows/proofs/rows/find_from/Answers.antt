@@ -3,14 +3,13 @@
 use mathlib.Core.Path.{◌≡◌, sym, ◌∙◌}
 use mathlib.Core.Bool.{Bool, true, false, not}
 use mathlib.Core.List.{List, []}
-use Prim.Native.Nat.{ℕ, ◌≤◌, ◌-◌, ◌+◌}
+use Prim.Native.Nat.{ℕ}
 use native.Mathlib.Omega.{arith}
-use lib.ListN.{take, drop, get_or}
+use lib.ListN.{take, get_or}
 use Rattle.laws.specs.Place.{prefix, prefix_past}
 use Rattle.laws.specs.Arrays.{prefix_stays, prefix_goes, spent}
 use Rattle.discovery_rows.specs.Rows.{owned}
 use Rattle.discovery_rows.specs.Walks.{place_within}
-use borrow.Author.Rules.{rules}
 use Rattle.discovery_rows.proofs.rows.find_from.Goals as goal
 
 pub loop-i-init : goal.loop-i-init

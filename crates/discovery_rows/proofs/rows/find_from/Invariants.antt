@@ -1,16 +1,11 @@
 -- No row before the first one looked at passes the test, and the walk has passed only rows that fail it: the place is what is passed and what is left of the walk.
 -- Assumes nothing.
-use mathlib.Core.Path.{◌≡◌, sym, ◌∙◌}
-use mathlib.Core.Bool.{Bool, true, false, not}
-use mathlib.Core.List.{List, []}
-use Prim.Native.Nat.{ℕ, ◌≤◌, ◌-◌, ◌+◌}
-use native.Mathlib.Omega.{arith}
-use lib.ListN.{take, drop, get_or}
-use Rattle.laws.specs.Place.{prefix, prefix_past}
-use Rattle.laws.specs.Arrays.{prefix_stays, prefix_goes, spent}
+use mathlib.Core.Path.{◌≡◌}
+use mathlib.Core.Bool.{not}
+use Prim.Native.Nat.{◌≤◌, ◌-◌, ◌+◌}
+use lib.ListN.{take, drop}
+use Rattle.laws.specs.Place.{prefix}
 use Rattle.discovery_rows.specs.Rows.{owned}
-use Rattle.discovery_rows.specs.Walks.{place_within}
-use borrow.Author.Rules.{rules}
 use Rattle.discovery_rows.proofs.rows.find_from.Given as goal
 
 abbrev pub invariant-loop-i : goal.invariant-loop-i

@@ -3,14 +3,13 @@
 use mathlib.Core.Path.{◌≡◌, sym, ap, ◌∙◌}
 use mathlib.Core.Bool.{true, false}
 use mathlib.Core.List.{[]}
-use Prim.Native.Nat.{ℕ, suc, ◌≤◌, ◌-◌, ◌+◌}
+use Prim.Native.Nat.{ℕ, suc, ◌-◌, ◌+◌}
 use native.Mathlib.Omega.{arith}
 use lib.Dec.{eqb}
 use lib.ListN.{take, drop, get_or, length-take}
 use borrow.Author.Tests.{eq-eqb, ne_eqb}
-use Rattle.laws.specs.Arrays.{spent, next}
+use Rattle.laws.specs.Arrays.{spent}
 use Rattle.discovery_rows.specs.Rows.{owned, in_turn, in_turn_skip, in_turn_row, in_turn_miss, in_turn_done, in_turn_none, in_turn_few}
-use borrow.Author.Rules.{rules}
 use Rattle.discovery_rows.proofs.rows.has_all_pages.Goals as goal
 
 pub returns-then-count-last_page : goal.returns-then-count-last_page

@@ -1,16 +1,9 @@
 -- With too few rows some place is not held. Otherwise what is left to test of the rows not yet passed is what was to be tested of all.
 -- Assumes nothing.
-use mathlib.Core.Path.{◌≡◌, sym, ap, ◌∙◌}
-use mathlib.Core.Bool.{true, false}
-use mathlib.Core.List.{[]}
-use Prim.Native.Nat.{ℕ, suc, ◌≤◌, ◌-◌, ◌+◌}
-use native.Mathlib.Omega.{arith}
-use lib.Dec.{eqb}
-use lib.ListN.{take, drop, get_or, length-take}
-use borrow.Author.Tests.{eq-eqb, ne_eqb}
-use Rattle.laws.specs.Arrays.{spent, next}
-use Rattle.discovery_rows.specs.Rows.{owned, in_turn, in_turn_skip, in_turn_row, in_turn_miss, in_turn_done, in_turn_none, in_turn_few}
-use borrow.Author.Rules.{rules}
+use mathlib.Core.Path.{◌≡◌}
+use Prim.Native.Nat.{suc, ◌≤◌, ◌-◌}
+use lib.ListN.{take, drop}
+use Rattle.discovery_rows.specs.Rows.{in_turn}
 use Rattle.discovery_rows.proofs.rows.has_all_pages.Given as goal
 
 abbrev pub invariant-loop-i : goal.invariant-loop-i

@@ -1,15 +1,11 @@
 -- The displaced row is carried along to the end.
 -- Assumes nothing.
-use mathlib.Core.Path.{◌≡◌, sym, ap, ◌∙◌}
-use mathlib.Core.List.{List, ◌++◌, ◌∷◌, []}
-use Prim.Native.Nat.{ℕ, ◌≤◌, ◌-◌}
-use native.Mathlib.Omega.{arith}
-use lib.ListN.{length, take, drop, length-set}
-use lib.Seq.{take-take}
+use mathlib.Core.Path.{◌≡◌}
+use mathlib.Core.List.{◌++◌, ◌∷◌}
+use Prim.Native.Nat.{◌≤◌, ◌-◌}
+use lib.ListN.{length, take, drop}
 use Rattle.laws.specs.Place.{insert_at}
-use Rattle.laws.specs.Arrays.{carry, laid}
 use Rattle.discovery.specs.Discovery.{capacity}
-use borrow.Author.Rules.{rules}
 use Rattle.discovery_rows.proofs.rows.insert_page.Given as goal
 
 abbrev pub invariant-loop-i : goal.invariant-loop-i

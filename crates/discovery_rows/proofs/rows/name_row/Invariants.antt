@@ -1,13 +1,8 @@
 -- Each turn writes one byte behind those written.
 -- Assumes nothing.
-use mathlib.Core.Path.{◌≡◌, sym, ◌∙◌}
+use mathlib.Core.Path.{◌≡◌}
 use Prim.Native.Nat.{◌≤◌, ◌-◌}
-use native.Mathlib.Omega.{arith}
-use native.Mathlib.Numerals.{add-one}
-use lib.ListN.{length, take, get_or, length-set}
-use lib.Seq.{take_all, take-suc}
-use Rattle.discovery_rows.specs.Walks.{pushed}
-use borrow.Author.Rules.{rules}
+use lib.ListN.{length, take}
 use Rattle.discovery.specs.Discovery.{most_name}
 use Rattle.discovery_rows.proofs.rows.name_row.Given as goal
 

@@ -3,13 +3,11 @@
 use mathlib.Core.Path.{◌≡◌, sym, ◌∙◌}
 use mathlib.Core.Bool.{true, false, not}
 use mathlib.Core.List.{[]}
-use Prim.Native.Nat.{◌≤◌, ◌-◌, ◌+◌}
 use native.Mathlib.Omega.{arith}
-use lib.ListN.{take, drop, get_or}
+use lib.ListN.{get_or}
 use Rattle.laws.specs.Place.{prefix}
 use Rattle.laws.specs.Arrays.{prefix_stays, prefix_goes, spent}
 use Rattle.discovery_rows.specs.Rows.{larger}
-use borrow.Author.Rules.{rules}
 use Rattle.discovery_rows.proofs.rows.page_place.Goals as goal
 
 pub returns-then-is_larger : goal.returns-then-is_larger

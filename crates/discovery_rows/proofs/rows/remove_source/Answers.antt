@@ -1,16 +1,11 @@
 -- Each later row moves one place down.
 -- Assumes nothing.
-use mathlib.Core.Path.{◌≡◌, sym, ap, ◌∙◌}
-use mathlib.Core.List.{List, ◌++◌, [], append-nil}
-use Prim.Native.Nat.{ℕ, ◌≤◌, ◌-◌, ◌+◌}
+use mathlib.Core.Path.{◌∙◌}
+use mathlib.Core.List.{[]}
+use Prim.Native.Nat.{◌+◌}
 use native.Mathlib.Omega.{arith}
-use native.Mathlib.Numerals.{add-one}
-use lib.ListN.{length, take, drop, length-set}
-use lib.Seq.{take-take}
-use Rattle.laws.specs.Place.{remove_at}
-use Rattle.laws.specs.Arrays.{spent, move}
-use Rattle.discovery.specs.Discovery.{capacity}
-use borrow.Author.Rules.{rules}
+use lib.ListN.{length-set}
+use Rattle.laws.specs.Arrays.{move}
 use Rattle.discovery_rows.proofs.rows.remove_source.Goals as goal
 
 pub loop-to-preserved : goal.loop-to-preserved

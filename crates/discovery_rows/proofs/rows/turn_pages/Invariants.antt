@@ -1,14 +1,10 @@
 -- The rows passed are turned, the others as they were.
 -- Assumes nothing.
-use mathlib.Core.Path.{◌≡◌, sym, ap, ◌∙◌}
-use mathlib.Core.Bool.{true, false}
-use mathlib.Core.List.{List, ◌++◌, ◌∷◌, [], map}
-use Prim.Native.Nat.{ℕ, ◌≤◌, ◌-◌}
-use native.Mathlib.Omega.{arith}
-use lib.ListN.{length, take, drop, get_or, length-set}
-use Rattle.discovery_rows.specs.Rows.{owned, turned_row, taken_more, map_more}
-use Rattle.discovery_rows.specs.Walks.{pushed, further_read, further, read_first}
-use borrow.Author.Rules.{rules}
+use mathlib.Core.Path.{◌≡◌}
+use mathlib.Core.List.{map}
+use Prim.Native.Nat.{◌≤◌, ◌-◌}
+use lib.ListN.{length, take, drop}
+use Rattle.discovery_rows.specs.Rows.{turned_row}
 use Rattle.discovery.specs.Discovery.{capacity}
 use Rattle.discovery_rows.proofs.rows.turn_pages.Given as goal
 

@@ -8,7 +8,6 @@ use lib.ListN.{length, take, get_or, set, length-set}
 use Rattle.laws.specs.Place.{remove_at}
 use Rattle.discovery.specs.Discovery.{capacity}
 use Rattle.discovery_rows.specs.Walks.{pushed}
-use borrow.Author.Rules.{rules}
 use Rattle.discovery_rows.proofs.rows.turn_source.Goals as goal
 
 pub returns : goal.returns
@@ -22,8 +21,8 @@ returns c =
     let row = get_or v.sources.now v.at [] in
     let new : List ℕ = 1 ∷ get_or row 1 0 ∷ get_or row 2 0 ∷ get_or row 3 0 ∷ get_or row 4 0 ∷ get_or row 5 0 ∷ [] in
     let name = get_or v.names.now v.at [] in
-    let S = x.new.0 in
-    let N = y.new.0 in
+    let S = x.new.sources in
+    let N = y.new.names in
     let l : length S ≡ capacity = x.ensures.0 in
     let m : length N ≡ capacity = y.ensures.0 in (
       length-set S last new ∙ l,

@@ -1,0 +1,43 @@
+-- There are no more sources than pages, so that there is room for both.
+-- Assumes nothing.
+use native.Mathlib.Omega.{arith}
+use lib.ListN.{length}
+use Rattle.discovery.specs.Discovery.{Announcement}
+use Rattle.discovery.specs.Kept.{Fitting}
+use Rattle.discovery_calls.specs.View.{Kept, kept_fewer}
+use Rattle.discovery_pages.specs.Steps.{pool_room}
+use Rattle.discovery_calls.specs.Calls.{source_added}
+use Rattle.discovery_calls.proofs.Discovery.add_source.Goals as goal
+
+pub write_at-requires : goal.write_at-requires
+write_at-requires c =
+    let s = c in
+    let v = s.args in
+    let k : Kept v.self v.sources.now v.names.now v.pages.now v.universes.now = s.requires.0 in
+    omega (arith, k.filled, pool_room v.self.page_count v.pages.now v.universes.now (length v.list.now) k.packing s.requires.2 s.requires.4)
+
+pub bounds-sources-at : goal.bounds-sources-at
+bounds-sources-at c =
+    let s = c in
+    let v = s.args in
+    let k : Kept v.self v.sources.now v.names.now v.pages.now v.universes.now = s.requires.0 in
+    omega (arith, kept_fewer v.self v.sources.now v.names.now v.pages.now v.universes.now k, s.requires.2)
+
+pub bounds-names-at : goal.bounds-names-at
+bounds-names-at c =
+    let s = c in
+    let v = s.args in
+    let k : Kept v.self v.sources.now v.names.now v.pages.now v.universes.now = s.requires.0 in
+    omega (arith, kept_fewer v.self v.sources.now v.names.now v.pages.now v.universes.now k, s.requires.2)
+
+pub returns : goal.returns
+returns c =
+    let s = c in
+    let v = s.args in
+    let k : Kept v.self v.sources.now v.names.now v.pages.now v.universes.now = s.requires.0 in
+    let a : Announcement = record { cid = v.cid; name = v.name.now; page = v.page; last_page = v.last_page; universes = v.list.now } in
+    let f : Fitting a = record { short_name = s.requires.3; few_universes = s.requires.4 } in
+    let n = c.name_row-kept_name in
+    let w = c.write_at in
+    source_added v.self v.sources.now v.names.now v.pages.now v.universes.now k v.mark v.reading a f s.requires.1 s.requires.5 s.requires.2
+    n.result w.new.universes n.ensures w.ensures.0 w.ensures.1 w.ensures.2

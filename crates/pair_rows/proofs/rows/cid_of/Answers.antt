@@ -1,0 +1,9 @@
+-- The two words of the row are the CID.
+-- Assumes nothing.
+use Rattle.std.proofs.Common.{rules}
+use Rattle.pair_rows.specs.View.{cid_of}
+use Rattle.pair_rows.proofs.rows.cid_of.Goals as goal
+
+pub returns : goal.returns
+unfolding cid_of
+returns c = search rules

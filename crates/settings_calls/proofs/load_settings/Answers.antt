@@ -1,0 +1,20 @@
+-- One law for each return.
+-- Assumes nothing.
+use mathlib.Core.Path.{sym, ap, ◌∙◌}
+use mathlib.Core.List.{List}
+use Prim.Native.Nat.{ℕ, ◌+◌}
+use native.Mathlib.Omega.{arith}
+use lib.ListN.{drop}
+use lib.Seq.{get_or-drop}
+use Rattle.laws.specs.Parts.{part_rest}
+use Rattle.settings_store.specs.Record.{of_layout}
+use Rattle.settings_store.proofs.ReturnsLaws.{all_bytes, loads_fields}
+use Rattle.settings_calls.specs.View.{layout_fields}
+use Rattle.settings_calls.proofs.load_settings.Goals as goal
+
+pub returns-then-is_marked : goal.returns-then-is_marked
+returns-then-is_marked c =
+    let b = c.args.bytes.now in
+    let k = c.shared_slice_known-1.given in
+    loads_fields c.args.layouts b c.read_layout.result (layout_fields c.layout_of-layout.result) (all_bytes (drop 3 b) (λ i. rw (get_or-drop 3 b i 0) (omega (arith, k (3 + i))))) (omega (arith, c.if-bytes-lt3.false)) (sym c.is_marked.ensures ∙ c.if-is_marked.true) c.layout_of-layout.ensures
+    (c.read_layout.ensures ∙ ap (λ (p : List ℕ). of_layout (layout_fields c.layout_of-layout.result) p) (part_rest b 3))
