@@ -1,4 +1,7 @@
 // An arrival at a pair table by the C calling convention, for the benchmark in bench/pairs.
+
+#![tactic(auto)]
+
 ghost use Rattle.std.specs.Prelude.{◌≡◌, false};
 ghost use Rattle.settings.specs.declared.SourceLimit.TheVariants.{Unlimited};
 ghost use Rattle.pairs.specs.Table.{number_of, check};
@@ -49,7 +52,7 @@ pub extern "C" fn bench_check_seq_number(
 ) -> Header
     requires { Kept (table_from header) pairs.old sources.old }
     ensures { Leaves (table_from result) pairs sources result.number
-        (numbered (check Unlimited false (arriving (record { hi = hi; lo = lo }) universe sequence reading) (table_before (tableFrom header) pairs sources))) }
+        (numbered (check Unlimited false (arriving (record { hi = hi; lo = lo }) universe sequence reading) (table_before (table_from header) pairs sources))) }
 {
     let table = PairTable {
         count: header.count,
