@@ -34,7 +34,7 @@ use Rattle.model.specs.Step.{Space, Outcome, outcome, if_accepted, stopped, kept
 use Rattle.model.specs.declared.MuteAnswer.{MuteAnswer}
 use Rattle.model.specs.Calls.{listen_call, mute_call}
 use Rattle.reorder.specs.Demand.{Telling, listen, mute, tell, start, name_of, Answered, answered, outcome_of, end, answers, Picks, NoneFull, EndAlike, Asked, NeitherFull}
-use Rattle.reorder.specs.Proof.{demand_3}
+use Rattle.reorder.proofs.ProofLaws.{demand_3}
 use Rattle.receiver.specs.declared.Receiver.{Receiver}
 use Rattle.receiver.specs.View.{Memory, state_of, space_in}
 use Rattle.reorder_code.specs.Runs.{byte_length, seen, Handling, Linked, packets, all_seen, lent_to, left_by, Told, TellingTo, tellings, Tells, Prepared}

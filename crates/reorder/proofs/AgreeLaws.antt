@@ -35,7 +35,9 @@ use Rattle.model.specs.State.{State, listens, itself}
 use Rattle.model.specs.Invariant.{Heard}
 use Rattle.model.specs.Step as model
 use Rattle.model.specs.Step.{Outcome, outcome}
-use Rattle.reorder.specs.Ideal.{Told, drop, change, learn, Effect, say, only, apply, unless, if_known, ending, arriving, releasing, data_effect, syncing, sync_effect, discovery_effect, Good, FitsPacket}
+use Rattle.reorder.specs.Ideal.{Told, drop, change, learn, Effect, say, only, apply, unless, if_known, ending, arriving, releasing, data_effect, syncing, sync_effect, discovery_effect}
+use Rattle.reorder.proofs.IdealLaws.{Good}
+use Rattle.reorder.proofs.IdealLaws.{FitsPacket}
 
 -- what an outcome leaves and tells
 abbrev pub out : Outcome → State × Told

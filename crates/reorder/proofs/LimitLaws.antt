@@ -23,7 +23,7 @@ use Rattle.pairs.specs.Laws.{GoodTable}
 use Rattle.pairs.proofs.Laws.{find_cids, ascending_cids, has_keep, has_store, without_pairs}
 use Rattle.reorder.specs.Demand.{InLimit}
 use Rattle.reorder.specs.Ideal.{Change, same, put, drop, change, Local}
-use Rattle.reorder.specs.Agree.{Room}
+use Rattle.reorder.proofs.AgreeLaws.{Room}
 
 -- an ascending list whose members all stand in another is not longer
 module _ {K : Type 0} (lt : K → K → Bool) (O : Order lt) where

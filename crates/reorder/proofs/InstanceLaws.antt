@@ -23,8 +23,8 @@ use Rattle.model.specs.Step as model
 use Rattle.model.specs.Step.{Space, too_short}
 use Rattle.model.specs.Calls.{listen_call, muted, mute_call}
 use Rattle.reorder.specs.Demand.{Timed, At, count, Reordering, MovedPast, Free, Telling, listen, mute, tell, start, Answered, answers, DataAt, SyncAt, counted, sources_of, Asked, NeitherFull, Agreed}
-use Rattle.reorder.specs.Reorder.{All}
-use Rattle.reorder.specs.Proof.{demand_3}
+use Rattle.reorder.proofs.ReorderLaws.{All}
+use Rattle.reorder.proofs.ProofLaws.{demand_3}
 
 -- ── what is given for each element of a list holds at each place ──
 each : {A : Type 0} (P : A → Type 0) (xs : List A) → All P xs → (i : ℕ) (x : A) → At xs i x → P x

@@ -34,11 +34,13 @@ use Rattle.model.specs.Calls.{listen_call, mute_call}
 use Rattle.model.specs.Invariant.{Heard}
 use Rattle.model.proofs.InvariantLaws.{listen_heard, mute_heard, heard_fresh}
 use Rattle.reorder.specs.Demand.{Timed, At, Picks, MovedPast, Telling, listen, mute, tell, start, name_of, Answered, answered, outcome_of, end, answers, DataAt, SyncAt, counted, sources_of, InLimit, NoneFull, Asked, NeitherFull, Agreed, Demand3}
-use Rattle.reorder.specs.Reorder.{Commutes, All, at_all, guarded, passes, fails, guarded_commutes, as_ideal}
-use Rattle.reorder.specs.Reorder as reorder
-use Rattle.reorder.specs.Ideal.{Told, say, apply, effect, polled, step, Same, Good, Fits, FitsPacket, Indep, Sound, sound, good_apply, good_polled, polled_polled, commutes, change, discovery_effect}
-use Rattle.reorder.specs.Agree.{out, done, capped, zero_not_taken, data_agree, sync_agree, discovery_agree}
-use Rattle.reorder.specs.Limit.{In, Within, room, within_swept, within_change}
+use Rattle.reorder.proofs.ReorderLaws.{Commutes, All, at_all, guarded, passes, fails, guarded_commutes, as_ideal}
+use Rattle.reorder.proofs.ReorderLaws as reorder
+use Rattle.reorder.specs.Ideal.{Told, say, apply, effect, polled, step, Same, Indep, change, discovery_effect}
+use Rattle.reorder.proofs.IdealLaws.{Good, Sound}
+use Rattle.reorder.proofs.IdealLaws.{Fits, FitsPacket, sound, good_apply, good_polled, polled_polled, commutes}
+use Rattle.reorder.proofs.AgreeLaws.{out, done, capped, zero_not_taken, data_agree, sync_agree, discovery_agree}
+use Rattle.reorder.proofs.LimitLaws.{In, Within, room, within_swept, within_change}
 
 -- ── what a fresh receiver can be told to listen to ──
 -- telling changes the listened universes alone
