@@ -1,4 +1,2 @@
 pub mod View
 pub mod Promises
-pub mod Admit
-pub mod Calls

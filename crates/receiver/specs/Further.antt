@@ -15,7 +15,7 @@ use Rattle.pairs.specs.declared.SweepAnswer.{SweepAnswer}
 use Rattle.pairs.specs.declared.SweepAnswer.TheVariants.{Quiet, TimedOut}
 use Rattle.sequences.specs.declared.SequenceNumbering.{SequenceNumbering}
 use Rattle.sequences.specs.View as sequences
-use Rattle.sequences.specs.Laws.{answer_some, answer_none}
+use Rattle.sequences.proofs.Laws.{answer_some, answer_none}
 use Rattle.waiting_calls.specs.declared.Waiting.{Waiting}
 use Rattle.waiting.specs.Waiting.{cleared}
 use Rattle.waiting_store.specs.Entries.{waiting_of, lent_none}

@@ -15,7 +15,7 @@ use Rattle.pair_tables.specs.declared.SyncTable.{SyncTable}
 use Rattle.sequences.specs.declared.SequenceNumbering.{SequenceNumbering}
 use Rattle.sequences.specs.Sequences.{numbers, removed}
 use Rattle.sequences.specs.View as sequences
-use Rattle.sequences.specs.Laws.{removed_found}
+use Rattle.sequences.proofs.Laws.{removed_found}
 use Rattle.waiting_calls.specs.declared.Waiting.{Waiting}
 use Rattle.waiting.proofs.Laws.{over_none}
 use Rattle.waiting_store.specs.Entries.{lent_none}

@@ -18,7 +18,7 @@ use Rattle.pairs.specs.declared.SweepAnswer.{SweepAnswer}
 use Rattle.pairs.specs.declared.SweepAnswer.TheVariants.{Quiet, TimedOut}
 use Rattle.sequences.specs.declared.SequenceNumbering.{SequenceNumbering}
 use Rattle.sequences.specs.View as sequences
-use Rattle.sequences.specs.Laws.{answer_some, answer_none, checks_nothing}
+use Rattle.sequences.proofs.Laws.{answer_some, answer_none, checks_nothing}
 use Rattle.sequences.specs.Sequences.{Numbers, numbers, timeouts, timeouts_data, timeouts_sync}
 use Rattle.pair_rows.specs.View.{Rows}
 use Rattle.timeouts.specs.View.{Polls, idle}

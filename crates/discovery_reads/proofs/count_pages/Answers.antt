@@ -8,7 +8,7 @@ use lib.ListN.{get_or}
 use Rattle.laws.specs.Table.{keep}
 use Rattle.laws.specs.Arrays.{spent}
 use Rattle.discovery_rows.specs.Rows.{owned}
-use Rattle.discovery_reads.specs.Reads.{count_one, count_none}
+use Rattle.discovery_reads.proofs.ReadsLaws.{count_one, count_none}
 use Rattle.discovery_reads.proofs.count_pages.Goals as goal
 
 pub loop-i-preserved-then-is_page_of : goal.loop-i-preserved-then-is_page_of

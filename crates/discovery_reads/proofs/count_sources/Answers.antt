@@ -7,7 +7,8 @@ use native.Mathlib.Omega.{arith}
 use lib.ListN.{get_or}
 use Rattle.laws.specs.Table.{keep}
 use Rattle.laws.specs.Arrays.{spent}
-use Rattle.discovery_reads.specs.Reads.{count_one, count_none, marked_row}
+use Rattle.discovery_reads.specs.Reads.{marked_row}
+use Rattle.discovery_reads.proofs.ReadsLaws.{count_one, count_none}
 use Rattle.discovery_reads.proofs.count_sources.Goals as goal
 
 pub loop-i-preserved-then-is_marked : goal.loop-i-preserved-then-is_marked

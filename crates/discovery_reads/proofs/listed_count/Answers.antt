@@ -5,7 +5,8 @@ use mathlib.Core.List.{List}
 use Prim.Native.Nat.{ℕ}
 use lib.ListN.{length}
 use Rattle.laws.specs.Table.{keep}
-use Rattle.discovery_reads.specs.Reads.{listed_total, take_within, marked_row}
+use Rattle.discovery_reads.specs.Reads.{marked_row}
+use Rattle.discovery_reads.proofs.ReadsLaws.{listed_total, take_within}
 use Rattle.discovery_reads.proofs.listed_count.Goals as goal
 
 pub returns : goal.returns

@@ -8,7 +8,8 @@ use native.Mathlib.Omega.{arith}
 use lib.ListN.{take, drop, get_or}
 use Rattle.laws.specs.Arrays.{spent}
 use Rattle.discovery_rows.specs.Rows.{owned}
-use Rattle.discovery_reads.specs.Reads.{nth, nth_here, nth_past, nth_over}
+use Rattle.discovery_reads.specs.Reads.{nth}
+use Rattle.discovery_reads.proofs.ReadsLaws.{nth_here, nth_past, nth_over}
 use borrow.Author.Rules.{rules}
 use Rattle.discovery_reads.proofs.nth_page.Goals as goal
 

@@ -7,7 +7,8 @@ use Prim.Native.Nat.{ℕ, suc, ◌≤◌, ◌-◌, ◌+◌}
 use native.Mathlib.Omega.{arith}
 use lib.ListN.{take, drop, get_or}
 use Rattle.laws.specs.Arrays.{spent}
-use Rattle.discovery_reads.specs.Reads.{nth, nth_here, nth_past, nth_over, marked_row}
+use Rattle.discovery_reads.specs.Reads.{nth, marked_row}
+use Rattle.discovery_reads.proofs.ReadsLaws.{nth_here, nth_past, nth_over}
 use borrow.Author.Rules.{rules}
 use Rattle.discovery_reads.proofs.nth_source.Goals as goal
 

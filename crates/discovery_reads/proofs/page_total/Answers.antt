@@ -6,7 +6,7 @@ use Prim.Native.Nat.{ℕ}
 use lib.ListN.{length}
 use Rattle.laws.specs.Table.{keep}
 use Rattle.discovery_rows.specs.Rows.{owned}
-use Rattle.discovery_reads.specs.Reads.{page_number, take_within}
+use Rattle.discovery_reads.proofs.ReadsLaws.{page_number, take_within}
 use Rattle.discovery_reads.proofs.page_total.Goals as goal
 
 pub returns : goal.returns

@@ -2,7 +2,7 @@
 -- Assumes nothing.
 use mathlib.Core.Path.{sym}
 use native.Mathlib.Omega.{arith}
-use Rattle.discovery_reads.specs.Reads.{page_part, page_missing}
+use Rattle.discovery_reads.proofs.ReadsLaws.{page_part, page_missing}
 use Rattle.discovery_reads.proofs.page_universes.Goals as goal
 
 pub returns-then-count-at-clause-held : goal.returns-then-count-at-clause-held

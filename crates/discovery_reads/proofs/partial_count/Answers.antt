@@ -5,7 +5,8 @@ use mathlib.Core.List.{List}
 use Prim.Native.Nat.{ℕ}
 use lib.ListN.{length}
 use Rattle.laws.specs.Table.{keep}
-use Rattle.discovery_reads.specs.Reads.{partial_total, take_within, marked_row}
+use Rattle.discovery_reads.specs.Reads.{marked_row}
+use Rattle.discovery_reads.proofs.ReadsLaws.{partial_total, take_within}
 use Rattle.discovery_reads.proofs.partial_count.Goals as goal
 
 pub returns : goal.returns

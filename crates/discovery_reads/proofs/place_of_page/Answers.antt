@@ -1,6 +1,6 @@
 -- The place of the k-th such row, if there is one, as far as there are rows.
 -- Assumes nothing.
-use Rattle.discovery_reads.specs.Reads.{page_at, page_none}
+use Rattle.discovery_reads.proofs.ReadsLaws.{page_at, page_none}
 use Rattle.discovery_reads.proofs.place_of_page.Goals as goal
 
 pub returns-then-count-place : goal.returns-then-count-place

@@ -1,6 +1,6 @@
 -- The place of the k-th such row, if there is one, as far as there are rows.
 -- Assumes nothing.
-use Rattle.discovery_reads.specs.Reads.{source_at, source_none}
+use Rattle.discovery_reads.proofs.ReadsLaws.{source_at, source_none}
 use Rattle.discovery_reads.proofs.source_place.Goals as goal
 
 pub returns-then-count-place : goal.returns-then-count-place

@@ -3,7 +3,7 @@
 use mathlib.Core.Path.{refl, sym, ◌∙◌}
 use Rattle.pairs.specs.declared.SweepAnswer.TheVariants.{Quiet}
 use Rattle.sequences.specs.View.{lent}
-use Rattle.sequences.specs.Laws.{checks_nothing}
+use Rattle.sequences.proofs.Laws.{checks_nothing}
 use Rattle.timeouts.specs.Laws.{polls_quiet, polls_told}
 use borrow.Author.Rules.{rules}
 use Rattle.timeouts.proofs.poll.Statement.{statement}

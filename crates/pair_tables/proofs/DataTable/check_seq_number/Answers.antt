@@ -4,7 +4,7 @@ use mathlib.Core.Path.{sym, subst}
 use Rattle.pairs.specs.Table.{check}
 use Rattle.pair_rows.specs.View.{Rows}
 use Rattle.pair_tables.specs.View.{table_of, arriving, Kept, Follows}
-use Rattle.pair_tables.specs.Calls.{checked_renewed}
+use Rattle.pair_tables.proofs.CallsLaws.{checked_renewed}
 use Rattle.pair_tables.proofs.DataTable.check_seq_number.Goals as goal
 
 pub returns-then-renew : goal.returns-then-renew

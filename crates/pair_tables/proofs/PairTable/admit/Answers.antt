@@ -10,7 +10,7 @@ use Rattle.rules.specs.Cid.{before}
 use Rattle.pairs.specs.Table.{itself}
 use Rattle.pair_rows.specs.View.{listed_sources_of}
 use Rattle.pair_rows.specs.Stores.{placed_at, placed_nothing}
-use Rattle.pair_tables.specs.Calls.{admit_listed}
+use Rattle.pair_tables.proofs.CallsLaws.{admit_listed}
 use Rattle.pair_tables.proofs.PairTable.admit.Goals as goal
 
 pub admit_source-requires : goal.admit_source-requires

@@ -9,8 +9,8 @@ use Rattle.laws.specs.Place.{place}
 use Rattle.pairs.specs.Table.{key_of, key_before, pair_at}
 use Rattle.pair_rows.specs.View.{pair_of, pairs_of}
 use Rattle.pair_rows.specs.Stores.{placed_nothing}
-use Rattle.pair_tables.specs.Admit.{pair_full, pair_new}
-use Rattle.pair_tables.specs.Calls.{used}
+use Rattle.pair_tables.proofs.AdmitLaws.{pair_full, pair_new}
+use Rattle.pair_tables.proofs.CallsLaws.{used}
 use borrow.Author.Rules.{rules}
 use Rattle.pair_tables.proofs.PairTable.admit_pair.Goals as goal
 

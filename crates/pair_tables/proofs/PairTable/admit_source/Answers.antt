@@ -6,7 +6,7 @@ use Rattle.rules.proofs.CidLaws.{cid_order}
 use Rattle.pairs.specs.Table.{itself}
 use Rattle.pair_rows.specs.View.{cid_of}
 use Rattle.pair_rows.specs.Stores.{rows_inserted}
-use Rattle.pair_tables.specs.Calls.{admit_limit, admit_full, admit_refused, admit_joins}
+use Rattle.pair_tables.proofs.CallsLaws.{admit_limit, admit_full, admit_refused, admit_joins}
 use Rattle.pair_tables.proofs.PairTable.admit_source.Goals as goal
 
 pub returns-then-is_reached : goal.returns-then-is_reached

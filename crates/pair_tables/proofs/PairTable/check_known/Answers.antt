@@ -11,7 +11,7 @@ use Rattle.pairs.proofs.TableLaws.{key_order}
 use Rattle.pair_rows.specs.View.{pair_of, pairs_of}
 use Rattle.pair_rows.specs.Stores.{placed_at, found_inside, found_read}
 use Rattle.pair_tables.specs.View.{pair_stop}
-use Rattle.pair_tables.specs.Admit.{pair_known}
+use Rattle.pair_tables.proofs.AdmitLaws.{pair_known}
 use Rattle.pair_tables.proofs.PairTable.check_known.Goals as goal
 
 pub offset_bounds-pairs-at : goal.offset_bounds-pairs-at

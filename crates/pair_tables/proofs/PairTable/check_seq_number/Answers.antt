@@ -4,7 +4,7 @@ use mathlib.Core.Path.{refl, sym, ap, subst, ◌∙◌}
 use Rattle.pairs.specs.declared.Checked.{Checked}
 use Rattle.pairs.specs.Table.{Table, sweep, admit}
 use Rattle.pair_tables.specs.View.{table_of, Follows}
-use Rattle.pair_tables.specs.Calls.{check_timeout, check_goes}
+use Rattle.pair_tables.proofs.CallsLaws.{check_timeout, check_goes}
 use Rattle.pair_tables.proofs.PairTable.check_seq_number.Goals as goal
 
 pub returns-in_default : goal.returns-in_default

@@ -14,7 +14,7 @@ use Rattle.pairs.specs.Table.{Key, key, key_of, key_before, itself, pair_at, has
 use Rattle.pairs.proofs.TableLaws.{key_order}
 use Rattle.pair_rows.specs.View.{pair_of, pairs_of, listed_sources_of}
 use Rattle.pair_rows.specs.Stores.{placed_at, placed_nothing, found_inside, rows_removed}
-use Rattle.pair_tables.specs.Calls.{removal_none, removal_some}
+use Rattle.pair_tables.proofs.CallsLaws.{removal_none, removal_some}
 use Rattle.pair_tables.proofs.PairTable.remove.Goals as goal
 
 pub returns-in_default : goal.returns-in_default

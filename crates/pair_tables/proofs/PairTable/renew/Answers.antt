@@ -7,7 +7,7 @@ use Rattle.rules.specs.Cid.{before}
 use Rattle.pairs.specs.Table.{itself}
 use Rattle.pair_rows.specs.View.{listed_sources_of}
 use Rattle.pair_rows.specs.Stores.{placed_at}
-use Rattle.pair_tables.specs.Calls.{renews_listed, renews_nothing}
+use Rattle.pair_tables.proofs.CallsLaws.{renews_listed, renews_nothing}
 use Rattle.pair_tables.proofs.PairTable.renew.Goals as goal
 
 pub returns-in_default : goal.returns-in_default

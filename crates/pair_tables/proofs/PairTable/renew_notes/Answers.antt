@@ -1,7 +1,7 @@
 -- The least reading is looked up; whether each listed CID has a pair only where it is not known.
 -- Assumes nothing.
 use mathlib.Core.Bool.{true}
-use Rattle.pair_tables.specs.Calls.{renews, tidy_known}
+use Rattle.pair_tables.proofs.CallsLaws.{renews, tidy_known}
 use Rattle.pair_tables.proofs.PairTable.renew_notes.Goals as goal
 
 pub returns-then-self : goal.returns-then-self

@@ -13,7 +13,7 @@ use Rattle.pair_rows.specs.View.{pair_of, pairs_of}
 use Rattle.pair_rows.specs.Stores.{placed_at, found_inside, rows_replaced}
 use Rattle.pair_tables.specs.declared.PairTable.{PairTable}
 use Rattle.pair_tables.specs.View.{Stored}
-use Rattle.pair_tables.specs.Calls.{stored_as}
+use Rattle.pair_tables.proofs.CallsLaws.{stored_as}
 use Rattle.pair_tables.proofs.PairTable.store_known.Goals as goal
 
 pub offset_bounds-pairs-at : goal.offset_bounds-pairs-at

@@ -6,7 +6,7 @@ use Rattle.pairs.specs.Table.{key_of, key_before}
 use Rattle.pairs.proofs.TableLaws.{key_order}
 use Rattle.pair_rows.specs.View.{pair_of}
 use Rattle.pair_rows.specs.Stores.{rows_inserted}
-use Rattle.pair_tables.specs.Calls.{stored_as}
+use Rattle.pair_tables.proofs.CallsLaws.{stored_as}
 use Rattle.pair_tables.proofs.PairTable.store_new.Goals as goal
 
 pub returns : goal.returns

@@ -1,7 +1,7 @@
 -- Nothing can be expired; nothing is noted, and the notes are made anew; or the pair that is noted goes.
 -- Assumes nothing.
 use mathlib.Core.Path.{sym, ◌∙◌}
-use Rattle.pair_tables.specs.Calls.{announced_idle, announced_renewed, announced_some, rows_stay, rows_told}
+use Rattle.pair_tables.proofs.CallsLaws.{announced_idle, announced_renewed, announced_some, rows_stay, rows_told}
 use Rattle.pair_tables.proofs.PairTable.sweep_announced.Goals as goal
 
 pub returns-in_default : goal.returns-in_default

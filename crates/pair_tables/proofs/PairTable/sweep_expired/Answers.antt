@@ -10,7 +10,7 @@ use Rattle.pairs.specs.declared.Pair.{Pair}
 use Rattle.pairs.specs.Table.{key_of, key_before, live, capacity}
 use Rattle.pairs.proofs.TableLaws.{key_order}
 use Rattle.pair_rows.specs.View.{pairs_of}
-use Rattle.pair_tables.specs.Calls.{sweep_idle, sweep_renewed, sweep_done, rows_stay, rows_busy}
+use Rattle.pair_tables.proofs.CallsLaws.{sweep_idle, sweep_renewed, sweep_done, rows_stay, rows_busy}
 use Rattle.pair_tables.proofs.PairTable.sweep_expired.Goals as goal
 
 pub returns-then-is_idle : goal.returns-then-is_idle

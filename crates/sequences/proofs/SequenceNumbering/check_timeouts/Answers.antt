@@ -1,7 +1,7 @@
 -- The data table's sweep decides: its number 4 ends the call, otherwise the synchronisation table is swept too.
 -- Assumes nothing.
 use Rattle.sequences.specs.View.{lent}
-use Rattle.sequences.specs.Laws.{checks_data, checks_both}
+use Rattle.sequences.proofs.Laws.{checks_data, checks_both}
 use Rattle.sequences.proofs.SequenceNumbering.check_timeouts.Goals as goal
 
 pub returns-in_default-clause-view : goal.returns-in_default-clause-view

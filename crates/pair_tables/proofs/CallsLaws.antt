@@ -27,7 +27,7 @@ use Rattle.pair_tables.specs.View.{table_of, renewed, quiet, reading_noted, Kept
 use Rattle.pair_rows.specs.Rows.{older_lower, lower_fresh}
 use Rattle.pair_sweeps.specs.Sweep.{fresh, note_none, note_some}
 use Rattle.pair_rows.specs.Notes.{older_removed, older_stored, lonely_without, lonely_swept, lonely_recorded}
-use Rattle.pair_tables.specs.Admit.{swept_idle, stop_listed, stop_limit, stop_full, stop_unlisted, listed_some, listed_none, recorded_listed, never_accepted}
+use Rattle.pair_tables.proofs.AdmitLaws.{swept_idle, stop_listed, stop_limit, stop_full, stop_unlisted, listed_some, listed_none, recorded_listed, never_accepted}
 
 -- the number of rows in use is what the header says
 pub used : {E : Type 0} (f : List ℕ → E) (n : ℕ) (rows : Rows) → n ≤ capacity → length rows ≡ capacity → length (map f (take n rows)) ≡ n
