@@ -1,4 +1,7 @@
 // A data packet whose sequence is stored: released at once, or held for its synchronisation.
+
+#![tactic(auto)]
+
 ghost use Rattle.std.specs.Prelude.{◌≤◌, length};
 ghost use Rattle.waiting_store.specs.Entries.{Kept as WaitingKept};
 ghost use Rattle.listening.specs.View.{Kept as ListeningKept};

@@ -1,4 +1,7 @@
 // An arriving data packet and an arriving synchronisation packet, behind the poll: the pair table, then what an accepted packet does.
+
+#![tactic(auto)]
+
 ghost use Rattle.std.specs.Prelude.{◌≤◌, length};
 ghost use Rattle.waiting_store.specs.Entries.{Kept as WaitingKept};
 ghost use Rattle.listening.specs.View.{Kept as ListeningKept};

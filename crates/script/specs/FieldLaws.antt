@@ -1,20 +1,17 @@
 -- Laws of the fields: what one turn of a loop over a field's bytes leaves unchanged, and how it ends.
 -- Assumes nothing.
-use Rattle.std.specs.Prelude.{◌≡◌, refl, Bool, true, false, cond, not, ◌&&◌, ℕ, zero, suc, ◌+◌, ◌*◌, ◌-◌, ◌/◌, ◌≤◌, ◌<◌, ltb, leb, eqb, take, drop, get_or, set}
+use Rattle.std.specs.Prelude.{◌≡◌, refl, Bool, true, false, not, ℕ, suc, ◌+◌, ◌*◌, ◌-◌, ◌/◌, ◌≤◌, ◌<◌, ltb, leb, eqb, take, drop, get_or, set}
 use Rattle.std.proofs.Math.Path.{sym, ap}
 use Rattle.std.proofs.Common.{subst, ◌∙◌, add-one, length-drop, drop-cons, take-suc-set, length-take-le, take_all, drop-drop}
 use Rattle.std.proofs.Math.Option.{Option, none, some}
 use mathlib.Core.List.{List, [], ◌∷◌, ◌++◌}
 use native.Mathlib.Omega.{arith}
 use Rattle.std.proofs.Math.ListN.{length, drop_of_length-le}
-use borrow.Author.Tests.{leb-true, ltb-true, ltb-false, lt-ltb, le-ltb, eq-eqb, ne_eqb, eqb-true, eqb-false, not-true, not-false}
+use borrow.Author.Tests.{leb-true, ltb-true, ltb-false, lt-ltb, le-ltb, eq-eqb, ne_eqb}
 use Rattle.laws.specs.Cases.{split as by_test, clash}
 use Rattle.laws.specs.Place.{prefix, prefix_le}
 use Rattle.script.specs.declared.fields.Number.{Number}
 use Rattle.script.specs.declared.fields.Number.TheVariants as number
-use Rattle.script.specs.declared.fields.Octet.TheVariants as octet
-use Rattle.script.specs.declared.fields.Octet.{Octet}
-use Rattle.script.specs.declared.fields.Count.{Count}
 use Rattle.script.specs.declared.fields.Count.TheVariants as count
 use Rattle.rules.specs.Cid.{cid_of}
 use Rattle.script.specs.declared.fields.Source.TheVariants as source

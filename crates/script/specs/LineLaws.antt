@@ -1,6 +1,6 @@
 -- Laws of lines gathered from chunks.
 -- Assumes nothing.
-use Rattle.std.specs.Prelude.{◌≡◌, refl, true, false, ◌||◌, List, [], ◌∷◌, ◌++◌, ℕ, zero, suc, ◌+◌, ◌-◌, ◌≤◌, ◌<◌, ltb, eqb, length, take, drop, get_or, set}
+use Rattle.std.specs.Prelude.{◌≡◌, refl, true, false, ◌||◌, List, [], ◌∷◌, ◌++◌, ℕ, zero, suc, ◌+◌, ◌-◌, ◌≤◌, ◌<◌, ltb, eqb, length, take, get_or, set}
 use Rattle.std.proofs.Common.{sym, ap, subst, ◌∙◌, append_assoc, append-nil, arith, add-one, length-set, length-append, take_all, take-suc-set, length-take-le, get_or-take, take-take, ne_eqb}
 use Rattle.std.proofs.Math.Seq.{take-append-add}
 use Rattle.script.specs.declared.lines.Line.{Line}

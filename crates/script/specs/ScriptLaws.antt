@@ -1,9 +1,8 @@
 -- Laws of a line's fields: a field as the code has it, and as the line says.
 -- Assumes nothing.
-use Rattle.std.specs.Prelude.{◌≡◌, refl, Bool, cond, List, [], ◌∷◌, ℕ, suc, ◌+◌, ◌-◌, ◌≤◌, ◌<◌, length, take, drop}
+use Rattle.std.specs.Prelude.{◌≡◌, refl, Bool, cond, List, ℕ, suc, ◌+◌, ◌-◌, ◌≤◌, ◌<◌, length, take, drop}
 use Rattle.std.proofs.Common.{sym, ap, subst, ◌∙◌, arith, add-one, drop_of_length-le, lt-ltb, le-ltb}
 use Rattle.std.proofs.Math.Option.{Option, none, some}
-use Rattle.script.specs.declared.fields.Count.{Count}
 use Rattle.script.specs.declared.fields.Count.TheVariants as count
 use Rattle.laws.specs.Ascii.{ascii}
 use Rattle.settings_store.specs.declared.Layouts.TheVariants as layouts

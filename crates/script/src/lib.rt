@@ -1,5 +1,8 @@
 // The words of a replay script: lines and their fields read as commands.
 // replay carries the commands out: it calls lines and parse, and its laws cite the types of fields.
+
+#![tactic(auto)]
+
 pub mod fields;
 pub mod lines;
 pub mod parse;

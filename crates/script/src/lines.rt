@@ -3,7 +3,7 @@ ghost use Rattle.std.specs.Prelude.{◌≡◌, ◌||◌, ◌≤◌, ltb, length,
 ghost use Rattle.script.specs.Lines.{Unread, Appended, Pieced, unreturned};
 
 use crate::fields::field_end;
-use libc::STDIN_FILENO;
+use std::io::{Read, Stdin};
 
 // The bytes of the chunk that are still to be read, and whether reading has failed.
 #[derive(Clone, Copy)]
@@ -36,19 +36,24 @@ impl Input {
 }
 
 // A new chunk once all of the last one is read. At the end of the input there is none, nor where it cannot be read.
-fn refill(input: Input, chunk: &mut [u8]) -> Input
+fn refill(mut from: Stdin, input: Input, chunk: &mut [u8]) -> Input
     requires { Unread input.at input.end chunk.old }
     ensures { Unread result.at result.end chunk.new }
 {
     if input.at < input.end {
         return input;
     }
-    let got = libc::read(STDIN_FILENO, &mut *chunk);
-    let n = io::count(got, &*chunk);
-    Input {
-        at: 0,
-        end: n,
-        failed: got < 0,
+    match from.read(&mut *chunk) {
+        Ok(n) => Input {
+            at: 0,
+            end: n,
+            failed: false,
+        },
+        Err(_) => Input {
+            at: 0,
+            end: 0,
+            failed: true,
+        },
     }
 }
 
@@ -142,12 +147,12 @@ fn is_ended(failed: bool, kept: usize) -> bool {
 }
 
 // One piece more of a line. Where the input ends, what there is of a line counts; where it cannot be read, nothing does.
-fn gather(line: Line, chunk: &mut [u8], text: &mut [u8]) -> Line
+fn gather(from: Stdin, line: Line, chunk: &mut [u8], text: &mut [u8]) -> Line
     requires { Unread line.input.at line.input.end chunk.old × (line.length ≤ length text.old) }
     ensures { Unread result.input.at result.input.end chunk.new × (result.length ≤ length text.new) }
 {
     let old = line.input;
-    let input = refill(old, &mut *chunk);
+    let input = refill(from, old, &mut *chunk);
     if input.at < input.end {
         let begun = Line {
             input: input,
@@ -168,7 +173,7 @@ fn gather(line: Line, chunk: &mut [u8], text: &mut [u8]) -> Line
 }
 
 // The next line; none where the input has ended. Nothing says that an input ends, so the pieces are counted down from a number that no run uses up.
-pub fn next_line(input: Input, chunk: &mut [u8], text: &mut [u8]) -> Line
+pub fn next_line(from: Stdin, input: Input, chunk: &mut [u8], text: &mut [u8]) -> Line
     requires { Unread input.at input.end chunk.old }
     ensures { Unread result.input.at result.input.end chunk.new × (result.length ≤ length text.new) }
 {
@@ -181,7 +186,7 @@ pub fn next_line(input: Input, chunk: &mut [u8], text: &mut [u8]) -> Line
     };
     let mut turns: u64 = 0xFFFF_FFFF_FFFF_FFFF;
     while 0 < turns {
-        line = gather(line, &mut *chunk, &mut *text);
+        line = gather(from, line, &mut *chunk, &mut *text);
         if line.over {
             return line;
         }

@@ -1,4 +1,7 @@
 // The poll: both pair tables and the waiting data, swept.
+
+#![tactic(auto)]
+
 ghost use Rattle.std.specs.Prelude.{◌≡◌};
 ghost use Rattle.waiting_store.specs.Entries.{Kept as WaitingKept};
 ghost use Rattle.sequences.specs.Promises.{sequence_rows_in, sequence_rows};
