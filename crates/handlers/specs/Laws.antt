@@ -19,7 +19,8 @@ use Rattle.receiver.specs.declared.Receiver.{Receiver}
 use Rattle.receiver.specs.View.{Memory, space_in, reading_noted, Kept}
 use Rattle.opening.specs.View.{Opens, Ready}
 use Rattle.steps.specs.View.{Takes, TakesShort}
-use Rattle.opening.specs.Laws.{opens_idle, ready_held}
+use Rattle.opening.specs.Laws.{ready_held}
+use Rattle.opening.proofs.Laws.{opens_idle}
 use Rattle.handlers.specs.View.{Steps, StepsShort}
 
 module _ (S : Settings) (now : ℕ) (p : Packet) (r : Receiver) (m : Memory) (out : List ℕ) (k : Kept r m) (long : Option ℕ) (l : too_long p ≡ long)

@@ -1,4 +1,7 @@
 // Document 01, 'The receiver', 1 and 2 of a step: lengths, then the poll.
+
+#![tactic(auto)]
+
 ghost use Rattle.std.specs.Prelude.{◌≡◌, true, List, ℕ, length};
 ghost use Rattle.sequences.specs.View as sequences;
 ghost use Rattle.laws.specs.Lent.{untouched};

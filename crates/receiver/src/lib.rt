@@ -1,4 +1,7 @@
 // Document 01, 'The receiver': the receiver and every call but the step. What is small goes in and comes back by value; the memory is lent to every call.
+
+#![tactic(auto)]
+
 ghost use Rattle.std.specs.Prelude.{◌≡◌, length};
 ghost use Rattle.listening.specs.View as listening;
 ghost use Rattle.sequences.specs.View as sequences;
