@@ -38,7 +38,7 @@ use Rattle.arrivals.specs.declared.Short.{Short}
 use Rattle.arrivals.specs.declared.Short.TheVariants as short
 use Rattle.receiver.specs.declared.Receiver.{Receiver}
 use Rattle.packets.specs.declared.DiscoveryPacket.{DiscoveryPacket}
-use Rattle.receiver.specs.View.{Memory, sequences_in, with_sequence_rows, with_data_rows, with_sync_rows, with_waiting_rows, with_listened_rows, with_discovery_rows, state_of, Kept}
+use Rattle.receiver.specs.View.{Memory, sequences_in, with_sequence_rows, with_data_rows, with_sync_rows, with_waiting_rows, with_listened_rows, with_discovery_rows, state_of}
 use Rattle.packets.specs.View.{announcement_of}
 use Rattle.acceptance.specs.View.{lent_of}
 use Rattle.arrivals.specs.View.{rows_of, Arrives, Synchronises, Shortens}

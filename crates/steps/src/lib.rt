@@ -1,4 +1,7 @@
 // Document 01, 'The receiver', 3 to 5 of a step: what each kind of packet does behind the opening. Crate handlers calls them in the order of a step.
+
+#![tactic(auto)]
+
 ghost use Rattle.std.specs.Prelude.{List, ℕ, ◌≤◌, length};
 ghost use Rattle.waiting_store.specs.Entries as waiting;
 ghost use Rattle.listening.specs.View as listening;
@@ -10,7 +13,7 @@ ghost use Rattle.packets.specs.View.{packet_of, sync_of, announcement_of};
 ghost use Rattle.laws.specs.Lent.{untouched};
 ghost use Rattle.receiver.specs.View.{Memory, Kept};
 ghost use Rattle.sequences.specs.Promises.{sequence_rows_in};
-ghost use Rattle.receiver.specs.Promises.{lent, sequences_lent, data_lent, sync_lent, waiting_lent, listened_lent, discovery_lent};
+ghost use Rattle.receiver.specs.Promises.{data_packet_lent, sequences_lent, data_lent, sync_lent, waiting_lent, listened_lent_shared, discovery_lent, discovery_lent_sources_shared};
 ghost use Rattle.waiting.specs.Records.{most_bytes};
 ghost use Rattle.merge.specs.Merge.{most_values};
 ghost use Rattle.discovery.specs.Discovery.{most_name, most_universes};
@@ -51,7 +54,7 @@ pub fn take_short(
     requires { pairs.Kept receiver.sequences.«data».table data_pairs.old data_sources.now
         × listening.Kept receiver.listened heard.now × (most_bytes ≤ length out.old) × (length values.now ≤ most_values) }
     ensures { (rest : Memory) →
-        let m = data_lent data_pairs data_sources (listened_lent heard (untouched rest)) in
+        let m = data_lent data_pairs data_sources (listened_lent_shared heard (untouched rest)) in
         TakesShort settings reading (packet_of packet values.now)
         receiver m.entry out.old m.exit out.new result }
 {
@@ -99,7 +102,7 @@ pub fn take_sync(
     requires listened { listening.Kept receiver.listened heard.now }
     requires room { most_bytes ≤ length out.old }
     ensures { (rest : Memory) →
-        let m = sync_lent sync_pairs sync_sources (waiting_lent rows store (listened_lent heard (untouched rest))) in
+        let m = sync_lent sync_pairs sync_sources (waiting_lent rows store (listened_lent_shared heard (untouched rest))) in
         Takes settings reading (sync_packet (sync_of packet))
         receiver m.entry out.old result.receiver m.exit out.new result.answer }
 {
@@ -212,7 +215,7 @@ fn end_stream(
     requires sequences { sequences.Kept receiver.sequences (sequence_rows_in data_pairs data_sources sync_pairs sync_sources) }
     requires discovery { discovery.Kept receiver.discovery sources.now names.now pages.old universes.old }
     ensures { (rest : Memory) →
-        let m = sequences_lent data_pairs data_sources sync_pairs sync_sources (discovery_lent sources names pages universes (untouched rest)) in
+        let m = sequences_lent data_pairs data_sources sync_pairs sync_sources (discovery_lent_sources_shared sources names pages universes (untouched rest)) in
         Ends cid universe receiver m.entry result m.exit }
 {
     let q = receiver.sequences;
@@ -261,7 +264,7 @@ pub fn take_data(
         × listening.Kept receiver.listened heard.old
         × discovery.Kept receiver.discovery sources.now names.now pages.old universes.old
         × (most_bytes ≤ length out.old) × (length values.now ≤ most_values) }
-    ensures { let m = lent data_pairs data_sources sync_pairs sync_sources rows store heard sources names pages universes in
+    ensures { let m = data_packet_lent data_pairs data_sources sync_pairs sync_sources rows store heard sources names pages universes in
         Takes settings reading (data_packet (packet_of packet values.now))
         receiver m.entry out.old result.receiver m.exit out.new result.answer }
 {
