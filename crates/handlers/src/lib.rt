@@ -1,4 +1,7 @@
 // Document 01, 'The receiver': a step on each kind of packet. The opening ends it, or lets the packet be taken; the commonest data packet has a short way.
+
+#![tactic(auto)]
+
 ghost use Rattle.model.specs.Packet.{data_packet, sync_packet, discovery_packet};
 ghost use Rattle.packets.specs.View.{packet_of, sync_of};
 ghost use Rattle.laws.specs.Lent.{untouched};
@@ -6,7 +9,7 @@ ghost use Rattle.pair_rows.specs.View.{Rows};
 ghost use Rattle.pair_tables.specs.View as pairs;
 ghost use Rattle.listening.specs.View as listening;
 ghost use Rattle.receiver.specs.View.{Memory, with_waiting_rows, with_discovery_rows, Kept};
-ghost use Rattle.receiver.specs.Promises.{lent_in, lent, data_lent, listened_lent};
+ghost use Rattle.receiver.specs.Promises.{data_packet_lent_in, data_packet_lent, sync_packet_lent_in, sync_packet_lent, discovery_packet_lent_in, discovery_packet_lent, data_lent, listened_lent_shared};
 ghost use Rattle.packets.specs.View.{announcement_of};
 ghost use Rattle.handlers.specs.View.{Steps, StepsShort};
 
@@ -44,8 +47,8 @@ fn step_data(
     out: &mut [u8],
 ) -> Handled
     requires { Kept receiver
-        (lent_in data_pairs data_sources sync_pairs sync_sources rows store heard sources names pages universes) }
-    ensures { let m = lent data_pairs data_sources sync_pairs sync_sources rows store heard sources names pages universes in
+        (data_packet_lent_in data_pairs data_sources sync_pairs sync_sources rows store heard sources names pages universes) }
+    ensures { let m = data_packet_lent data_pairs data_sources sync_pairs sync_sources rows store heard sources names pages universes in
         Steps settings reading (data_packet (packet_of packet values.now))
         receiver m.entry out.old result.receiver m.exit out.new result.answer }
 {
@@ -109,7 +112,7 @@ fn step_short(
 ) -> Short
     requires { pairs.Kept receiver.sequences.«data».table data_pairs.old data_sources.now × listening.Kept receiver.listened heard.now }
     ensures { (rest : Memory) (rows sources names pages : Rows) →
-        let m = data_lent data_pairs data_sources (listened_lent heard
+        let m = data_lent data_pairs data_sources (listened_lent_shared heard
         (untouched (with_waiting_rows rows store.now (with_discovery_rows sources names pages universes.now rest)))) in
         StepsShort settings reading (packet_of packet values.now)
         receiver m.entry out.old m.exit out.new result }
@@ -155,8 +158,8 @@ pub fn handle_data_packet(
     out: &mut [u8],
 ) -> Handled
     requires { Kept receiver
-        (lent_in data_pairs data_sources sync_pairs sync_sources rows store heard sources names pages universes) }
-    ensures { let m = lent data_pairs data_sources sync_pairs sync_sources rows store heard sources names pages universes in
+        (data_packet_lent_in data_pairs data_sources sync_pairs sync_sources rows store heard sources names pages universes) }
+    ensures { let m = data_packet_lent data_pairs data_sources sync_pairs sync_sources rows store heard sources names pages universes in
         Steps settings reading (data_packet (packet_of packet values.now))
         receiver m.entry out.old result.receiver m.exit out.new result.answer }
 {
@@ -220,8 +223,8 @@ pub fn handle_sync_packet(
     out: &mut [u8],
 ) -> Handled
     requires { Kept receiver
-        (lent_in data_pairs data_sources sync_pairs sync_sources rows store heard sources names pages universes) }
-    ensures { let m = lent data_pairs data_sources sync_pairs sync_sources rows store heard sources names pages universes in
+        (sync_packet_lent_in data_pairs data_sources sync_pairs sync_sources rows store heard sources names pages universes) }
+    ensures { let m = sync_packet_lent data_pairs data_sources sync_pairs sync_sources rows store heard sources names pages universes in
         Steps settings reading (sync_packet (sync_of packet))
         receiver m.entry out.old result.receiver m.exit out.new result.answer }
 {
@@ -284,8 +287,8 @@ pub fn handle_universe_discovery_packet(
     out: &[u8],
 ) -> Handled
     requires { Kept receiver
-        (lent_in data_pairs data_sources sync_pairs sync_sources rows store heard sources names pages universes) }
-    ensures { let m = lent data_pairs data_sources sync_pairs sync_sources rows store heard sources names pages universes in
+        (discovery_packet_lent_in data_pairs data_sources sync_pairs sync_sources rows store heard sources names pages universes) }
+    ensures { let m = discovery_packet_lent data_pairs data_sources sync_pairs sync_sources rows store heard sources names pages universes in
         Steps settings reading (discovery_packet (announcement_of packet name.now list.now))
         receiver m.entry out.now result.receiver m.exit out.now result.answer }
 {
