@@ -20,6 +20,7 @@ use Rattle.discovery.specs.Discovery.{Page, Source, capacity}
 use Rattle.discovery_rows.specs.Store.{pages_at, source_of, sources_at, view_of}
 use Rattle.discovery_rows.specs.Rows.{owned, head_of, leaf_at, heads, leaves, total, amount}
 use Rattle.discovery_calls.specs.View.{heads_of, leaves_of, discovered_of}
+
 -- how many entries stand before the k-th that passes the test; all of them where there are not so many
 unfoldable pub nth : {A : Type 0} → (A → Bool) → ℕ → List A → ℕ
 nth p k [] = 0

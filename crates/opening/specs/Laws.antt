@@ -38,6 +38,7 @@ use Rattle.receiver.specs.View.{Memory, sequences_in, with_sequence_rows, with_w
 use Rattle.timeouts.specs.View.{Polls, idle}
 use Rattle.timeouts.specs.Laws.{polls_idle}
 use Rattle.opening.specs.View.{opening, Opens}
+
 -- ── lengths ──
 pub record Long (out store universes : List ℕ) : Type 0 where
   pub output : most_bytes ≤ length out

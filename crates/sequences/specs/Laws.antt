@@ -19,6 +19,7 @@ use Rattle.pair_tables.proofs.CallsLaws.{sweep_quiet}
 use Rattle.sequences.specs.declared.SequenceNumbering.{SequenceNumbering}
 use Rattle.sequences.specs.Sequences.{Numbers, numbers, timeouts, timeouts_data, timeouts_sync, removed}
 use Rattle.sequences.specs.View.{Lent, lent, data_of, sync_of, numbers_of, quiet, Kept, Follows, Unmoved, answered}
+
 -- by whether it was known
 known_first : (j : Key) (x : Numbers) → not (unknown (pair_at j x.data_table.pairs)) ≡ true → removed j x ≡ numbers (without j x.data_table) (without j x.sync_table)
 unfolding removed
