@@ -1,4 +1,7 @@
 // What crosses the C boundary: headers, settings, packets and answers as structs of numbers, turned over by small functions.
+
+#![tactic(auto)]
+
 ghost use Rattle.std.specs.Prelude.{◌≡◌, List, ℕ};
 ghost use Rattle.settings.specs.Settings.{limited, expiring, number_of};
 ghost use Rattle.rules.specs.Bytes.{bit};

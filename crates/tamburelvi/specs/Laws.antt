@@ -21,7 +21,8 @@ use Rattle.boundary.specs.declared.Choices.{Choices}
 use Rattle.boundary.specs.declared.Adjusted.{Adjusted}
 use Rattle.boundary.specs.Boundary.{receiver_of, header_of, settings_of, stored_of, loaded_of, reply_of}
 use Rattle.tamburelvi.specs.Promises.{Replies, Answers, StoresSettings, LoadsSettings}
-use Rattle.boundary.specs.Laws.{step_number_lem, step_values_lem, Tells, tells_store, load_number_lem, load_left, load_taken}
+use Rattle.boundary.specs.Laws.{Tells}
+use Rattle.boundary.proofs.Laws.{step_number_lem, step_values_lem, tells_store, load_number_lem, load_left, load_taken}
 
 pub kept_there : (h : Header) (r : Receiver) (m : Memory) → r ≡ receiver_of h → Kept (receiver_of h) m → Kept r m
 kept_there h r m e k = subst (λ (x : Receiver). Kept x m) (sym e) k

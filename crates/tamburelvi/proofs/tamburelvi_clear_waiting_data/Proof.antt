@@ -11,7 +11,7 @@ use Rattle.receiver.specs.View.{with_waiting_rows}
 use Rattle.receiver.specs.declared.Receiver.{Receiver}
 use Rattle.boundary.specs.Boundary.{cleared_of}
 use Rattle.tamburelvi.specs.Laws.{answers}
-use Rattle.boundary.specs.Laws.{tells_clear}
+use Rattle.boundary.proofs.Laws.{tells_clear}
 use borrow.Author.Rules.{rules}
 use Rattle.tamburelvi.proofs.tamburelvi_clear_waiting_data.Statement.{statement}
 use Rattle.tamburelvi.proofs.tamburelvi_clear_waiting_data.Tie as tie

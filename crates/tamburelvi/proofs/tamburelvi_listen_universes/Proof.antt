@@ -8,7 +8,7 @@ use Rattle.receiver.specs.View.{with_listened_rows}
 use Rattle.receiver.specs.declared.Receiver.{Receiver}
 use Rattle.boundary.specs.Boundary.{heard_of}
 use Rattle.tamburelvi.specs.Laws.{answers}
-use Rattle.boundary.specs.Laws.{tells_listen}
+use Rattle.boundary.proofs.Laws.{tells_listen}
 use borrow.Author.Rules.{rules}
 use Rattle.tamburelvi.proofs.tamburelvi_listen_universes.Statement.{statement}
 use Rattle.tamburelvi.proofs.tamburelvi_listen_universes.Tie as tie

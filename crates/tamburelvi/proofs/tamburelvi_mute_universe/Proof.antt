@@ -8,7 +8,7 @@ use Rattle.receiver.specs.View.{with_listened_rows}
 use Rattle.receiver.specs.declared.Receiver.{Receiver}
 use Rattle.boundary.specs.Boundary.{muted_of}
 use Rattle.tamburelvi.specs.Laws.{answers}
-use Rattle.boundary.specs.Laws.{tells_mute}
+use Rattle.boundary.proofs.Laws.{tells_mute}
 use borrow.Author.Rules.{rules}
 use Rattle.tamburelvi.proofs.tamburelvi_mute_universe.Statement.{statement}
 use Rattle.tamburelvi.proofs.tamburelvi_mute_universe.Tie as tie

@@ -14,7 +14,7 @@ use Rattle.receiver.specs.View.{with_sequence_rows, with_waiting_rows, Does}
 use Rattle.receiver.specs.declared.Receiver.{Receiver}
 use Rattle.boundary.specs.Boundary.{settings_of, polled_of}
 use Rattle.tamburelvi.specs.Laws.{answers}
-use Rattle.boundary.specs.Laws.{tells_poll}
+use Rattle.boundary.proofs.Laws.{tells_poll}
 use borrow.Author.Rules.{rules}
 use Rattle.tamburelvi.proofs.tamburelvi_poll.Statement.{statement}
 use Rattle.tamburelvi.proofs.tamburelvi_poll.Tie as tie

@@ -13,7 +13,7 @@ use Rattle.receiver.specs.View.{with_discovery_rows, Does}
 use Rattle.receiver.specs.declared.Receiver.{Receiver}
 use Rattle.boundary.specs.Boundary.{settings_of, swept_of}
 use Rattle.tamburelvi.specs.Laws.{answers}
-use Rattle.boundary.specs.Laws.{tells_expiry}
+use Rattle.boundary.proofs.Laws.{tells_expiry}
 use borrow.Author.Rules.{rules}
 use Rattle.tamburelvi.proofs.tamburelvi_remove_expired_sources.Statement.{statement}
 use Rattle.tamburelvi.proofs.tamburelvi_remove_expired_sources.Tie as tie
