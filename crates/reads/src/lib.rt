@@ -1,4 +1,7 @@
 // Read-outs of the receiver's tables by place, as structs of numbers.
+
+#![tactic(auto)]
+
 ghost use Rattle.std.specs.Prelude.{◌≡◌, List, [], ℕ, ◌≤◌, ◌<◌, length, take, drop, get_or};
 ghost use Rattle.pair_rows.specs.View.{cid_of, pair_of, pairs_of, listed_sources_of};
 ghost use Rattle.waiting_store.specs.Entries.{waiting_of, nothing};
@@ -250,7 +253,7 @@ pub fn source_at(header: Header, sources: &HeadRows, mark: u64, at: usize) -> So
 pub fn page_at(header: Header, pages: &PageRows, mark: u64, hi: u64, lo: u64, at: usize) -> PageRead
     requires { length pages.now ≡ most_pages }
     ensures placed { (universes : List ℕ) →
-        PageAt mark (record { hi = hi; lo = lo }) at result.place (receiverOf header).discovery pages.now universes }
+        PageAt mark (record { hi = hi; lo = lo }) at result.place (receiver_of header).discovery pages.now universes }
     ensures told { result.place < (receiver_of header).discovery.page_count → (universes : List ℕ) → length universes ≤ longest →
         page_of_row pages.now universes result.place ≡ page_read result universes }
     ensures past { (receiver_of header).discovery.page_count ≤ result.place → result ≡ no_page result.place }
