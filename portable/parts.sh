@@ -49,15 +49,17 @@ end() { # WHAT: the last line
   exit 0
 }
 
+# The proved library: TAMBURELVI_LIB's, or that of the sources.
+proved=${TAMBURELVI_LIB:+$TAMBURELVI_LIB/libtamburelvi.a}
+[ -n "$proved" ] || proved=$(tools/built --path library tamburelvi)
+
 # The scripts, and the answers that the proved program gives to them: the recorded sample, document 01's trial values, random lines.
 # A line that puts a limit of 0 into the settings is left out: in C that is no limit, and the sample has none.
 loader=/lib64/ld-linux-x86-64.so.2
 scripts() {
-  local replay=${TAMBURELVI_REPLAY:-target/bin/replay} kind n differ=target/differential/cargo/release/differ
-  if [ ! -x "$replay" ]; then
-    [ -z "${TAMBURELVI_REPLAY-}" ] || { echo "no program $replay"; return 1; }
-    rt check replay
-  fi
+  local replay=${TAMBURELVI_REPLAY-} kind n differ=target/differential/cargo/release/differ
+  [ -n "$replay" ] || replay=$(tools/built program replay)
+  [ -x "$replay" ] || { echo "no program $replay"; return 1; }
   cargo build --quiet --release --offline --jobs 1 --manifest-path differential/tool/Cargo.toml --target-dir target/differential/cargo
   rm -rf "$made/scripts" && mkdir -p "$made/scripts"
   cp crates/replay/stdin "$made/scripts/sample"

@@ -5,7 +5,7 @@ use std::path::PathBuf;
 fn main() {
     println!("cargo::rerun-if-env-changed=TAMBURELVI_LIB");
     let beside =
-        PathBuf::from(std::env::var("CARGO_MANIFEST_DIR").unwrap()).join("../../target/staticlib");
+        PathBuf::from(std::env::var("CARGO_MANIFEST_DIR").unwrap()).join("../../crates/tamburelvi/out");
     let folder = std::env::var("TAMBURELVI_LIB").map_or(beside, PathBuf::from);
     let library = folder.join("libtamburelvi.a");
     println!("cargo::rerun-if-changed={}", library.display());

@@ -1,6 +1,6 @@
 //! Random scripts through this crate and through the replay program of docs/REPLAY.md, and every answer compared.
 //!
-//! TAMBURELVI_REPLAY is the program with its arguments (default target/bin/replay in the root of the repository, which `bindings/rust/run` builds). Without it the test fails.
+//! TAMBURELVI_REPLAY is the program with its arguments (default crates/replay/out/replay in the root of the repository, which `bindings/rust/run` builds). Without it the test fails.
 
 use std::collections::BTreeMap;
 use std::fmt::Write as _;
@@ -523,12 +523,12 @@ fn run(seed: u64) -> Run {
 
 fn replay() -> Command {
     let root = PathBuf::from(env!("CARGO_MANIFEST_DIR")).join("../..");
-    let words = std::env::var("TAMBURELVI_REPLAY").unwrap_or("target/bin/replay".into());
+    let words = std::env::var("TAMBURELVI_REPLAY").unwrap_or("crates/replay/out/replay".into());
     let mut words = words.split(' ');
     let program = root.join(words.next().unwrap_or_default());
     assert!(
         program.is_file(),
-        "no replay program at {}: `rt check replay` builds it, or name one by TAMBURELVI_REPLAY",
+        "no replay program at {}: `tools/built program replay` builds it, or name one by TAMBURELVI_REPLAY",
         program.display()
     );
     let mut command = Command::new(program);

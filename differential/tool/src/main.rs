@@ -79,7 +79,7 @@ fn print_script(kind: &str, seed: &str, number: &str) -> Result<bool, String> {
 fn run(words: &[&str]) -> Result<bool, String> {
     let places = Places::new();
     let reference = reference(&places)?;
-    let port = Side::new(&std::env::var("PORT").unwrap_or("target/bin/replay".into()));
+    let port = Side::new(&std::env::var("PORT").unwrap_or("crates/replay/out/replay".into()));
     if let Some(path) = words.first()
         && path.parse::<u64>().is_err()
     {

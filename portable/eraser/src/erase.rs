@@ -49,6 +49,10 @@ pub struct Erased {
 /// The length that no slice exceeds, where usize has 64 bits.
 const LONGEST: &str = "9223372036854775807";
 
+/// The one derive, as its tokens stand side by side, and how many they are.
+const DERIVE: &str = "#[derive(Clone,Copy)]";
+const DERIVE_TOKENS: usize = 9;
+
 const WRAPPED: &[&str] = &["u8", "u16", "u32", "u64"];
 
 /// Spaces at the ends of lines go: ghost text leaves them behind.
@@ -118,11 +122,24 @@ impl Eraser<'_> {
         })
     }
 
-    /// `#[repr(C)]` stays; `#[no_mangle]` goes to the C boundary. How many tokens go.
+    /// `#[derive(Clone, Copy)]` on a struct or an enum stays, and so does `#[repr(C)]`; `#[unsafe(no_mangle)]` goes to the C boundary. How many tokens go.
     fn attribute(&mut self, i: usize) -> Result<usize, Refusal> {
-        let text: String = (i..i + 7).map(|j| self.at(j)).collect();
+        let text: String = (i..i + DERIVE_TOKENS).map(|j| self.at(j)).collect();
+        if text == DERIVE {
+            let after = i + DERIVE_TOKENS;
+            let item = after + (self.at(after) == "pub") as usize;
+            if !matches!(self.at(item), "struct" | "enum") {
+                return self.refuse(
+                    i,
+                    "`#[derive(Clone, Copy)]` on something else than a struct or an enum",
+                );
+            }
+            self.out.counts.derives += 1;
+            return Ok(0);
+        }
         if text.starts_with("#[repr(C)]") {
-            let after = i + 7;
+            let derived: String = (i + 7..i + 7 + DERIVE_TOKENS).map(|j| self.at(j)).collect();
+            let after = i + 7 + if derived == DERIVE { DERIVE_TOKENS } else { 0 };
             let name = after + 1 + (self.at(after) == "pub") as usize;
             if self.at(name - 1) != "struct" {
                 return self.refuse(i, "`#[repr(C)]` on something else than a struct");
@@ -130,28 +147,28 @@ impl Eraser<'_> {
             self.out.layouts.push(self.at(name).into());
             return Ok(0);
         }
-        if text.starts_with("#[no_mangle]") {
+        if text.starts_with("#[unsafe(no_mangle)]") {
             self.export(i)?;
             self.out.counts.exports += 1;
-            return Ok(4);
+            return Ok(7);
         }
         let end = text.find(']').map_or(text.len(), |n| n + 1);
         self.refuse(i, format!("attribute {}", &text[..end]))
     }
 
-    /// The function behind the `#[no_mangle]` at i.
+    /// The function behind the `#[unsafe(no_mangle)]` at i.
     fn export(&mut self, i: usize) -> Result<(), Refusal> {
-        let words: Vec<&str> = (i + 4..i + 8).map(|j| self.at(j)).collect();
+        let words: Vec<&str> = (i + 7..i + 11).map(|j| self.at(j)).collect();
         if words != ["pub", "extern", "\"C\"", "fn"]
-            || !self.is_name(i + 8)
-            || self.at(i + 9) != "("
+            || !self.is_name(i + 11)
+            || self.at(i + 12) != "("
         {
             return self.refuse(
                 i,
-                "`#[no_mangle]` on something else than `pub extern \"C\" fn NAME(`",
+                "`#[unsafe(no_mangle)]` on something else than `pub extern \"C\" fn NAME(`",
             );
         }
-        let (mut j, mut parameters) = (i + 10, Vec::new());
+        let (mut j, mut parameters) = (i + 13, Vec::new());
         while self.at(j) != ")" {
             if !self.is_name(j) || self.at(j + 1) != ":" {
                 return self.refuse(j, "a parameter at the C boundary that is not `NAME: TYPE`");
@@ -172,7 +189,7 @@ impl Eraser<'_> {
             return self.refuse(i, "an exported function without a result of one word");
         }
         self.out.exports.push(Export {
-            name: self.at(i + 8).into(),
+            name: self.at(i + 11).into(),
             parameters,
             result: self.at(j + 3).into(),
             line: self.line(i),
@@ -249,17 +266,36 @@ impl Eraser<'_> {
         )
     }
 
-    /// `use PATH::NAME;`, and nothing else.
+    /// `use PATH::NAME;` or `use PATH::{NAME, NAME};`, and nothing else.
     fn import(&mut self, i: usize) -> Result<(), Refusal> {
         let (mut j, mut parts) = (i + 1, Vec::new());
         while self.is_word(j) && self.at(j + 1) == "::" {
             parts.push(self.at(j).to_string());
             j += 2;
         }
-        if parts.is_empty() || !self.is_name(j) || self.at(j + 1) != ";" {
-            return self.refuse(i, "`use` of another form than `use PATH::NAME;`");
+        let mut names = Vec::new();
+        let end = if self.at(j) == "{" {
+            j += 1;
+            while self.is_name(j) {
+                names.push(self.at(j).to_string());
+                j += 1;
+                if self.at(j) != "," {
+                    break;
+                }
+                j += 1;
+            }
+            (self.at(j) == "}").then_some(j + 1)
+        } else {
+            names.push(self.at(j).to_string());
+            self.is_name(j).then_some(j + 1)
+        };
+        let ends = end.is_some_and(|at| self.at(at) == ";");
+        if parts.is_empty() || names.is_empty() || !ends {
+            return self.refuse(
+                i,
+                "`use` of another form than `use PATH::NAME;` or `use PATH::{NAME, NAME};`",
+            );
         }
-        let name = self.at(j).to_string();
         let head = match parts[0].as_str() {
             "crate" => format!("crate::{}", self.place.krate),
             own if self.out.mods.iter().any(|m| m == own) => {
@@ -267,11 +303,25 @@ impl Eraser<'_> {
             }
             other => format!("crate::{other}"),
         };
-        let path = [vec![head], parts[1..].to_vec(), vec![name.clone()]]
-            .concat()
-            .join("::");
-        self.out.imports.insert(name, path);
+        for name in names {
+            let path = [vec![head.clone()], parts[1..].to_vec(), vec![name.clone()]]
+                .concat()
+                .join("::");
+            self.out.imports.insert(name, path);
+        }
         Ok(())
+    }
+
+    /// Whether the path that ends at i is that of a `use`.
+    fn is_imported(&self, i: usize) -> bool {
+        let mut j = i;
+        while self.at(j) == "::" || self.is_name(j) || self.at(j) == "crate" {
+            let Some(before) = j.checked_sub(1) else {
+                return false;
+            };
+            j = before;
+        }
+        self.at(j) == "use"
     }
 
     /// What a code token becomes, and how many code tokens behind it go with it; None where it goes itself.
@@ -287,7 +337,9 @@ impl Eraser<'_> {
             };
         }
         if text == "::"
-            && (!self.is_word(i.wrapping_sub(1)) || matches!(next.as_str(), "{" | "*" | "<"))
+            && (!self.is_word(i.wrapping_sub(1))
+                || matches!(next.as_str(), "*" | "<")
+                || next == "{" && !self.is_imported(i))
         {
             return self.refuse(i, "`::` of a form that is not known");
         }
@@ -306,7 +358,7 @@ impl Eraser<'_> {
                 let known = next == "\"C\""
                     && self.at(i + 2) == "fn"
                     && self.back(i, 1) == "pub"
-                    && self.back(i, 3) == "no_mangle";
+                    && self.back(i, 4) == "no_mangle";
                 if !known {
                     return self.refuse(i, "`extern` that exports nothing");
                 }
@@ -314,14 +366,6 @@ impl Eraser<'_> {
             }
             "fn" if !self.is_name(i + 1) => return self.refuse(i, "`fn` without a name"),
             "pub" if next == "(" => return self.refuse(i, "`pub` with a scope"),
-            "pub" if matches!(next.as_str(), "struct" | "enum") => {
-                self.out.counts.derives += 1;
-                return Ok((Some("#[derive(Clone, Copy)] pub".into()), 0));
-            }
-            "struct" | "enum" if self.back(i, 1) != "pub" => {
-                self.out.counts.derives += 1;
-                return Ok((Some(format!("#[derive(Clone, Copy)] {text}")), 0));
-            }
             "mod" => {
                 if self.at(i + 2) != ";" || self.place.crates.contains(&next) {
                     return self.refuse(i, "`mod` with a body, or with the name of a crate");

@@ -59,7 +59,12 @@ fn listed(text: &str) -> Result<(Crates, Vec<String>), Refusal> {
         let Some((name, uses)) = line.split_once(':') else {
             return Err(refusal("crates.txt", n + 1, "a line without `:`"));
         };
-        let name = name.trim().to_string();
+        let name = name.trim();
+        let name = name
+            .strip_suffix(" staticlib")
+            .unwrap_or(name)
+            .trim_end()
+            .to_string();
         order.push(name.clone());
         if crates
             .insert(
@@ -305,6 +310,7 @@ pub fn package(sources: &Sources) -> Result<Package, Refusal> {
                 )
             }));
             let c = &one.counts;
+            counts.tactics += c.tactics;
             counts.ghost_uses += c.ghost_uses;
             counts.contracts += c.contracts;
             counts.derives += c.derives;

@@ -96,6 +96,12 @@ pub const REFUSED_WORDS: &[&str] = &[
     "auto",
 ];
 
+/// The line at a crate's head that has the prover try its tactics.
+const TACTIC: &str = "#![tactic(auto)]";
+
+/// The one place where the word `unsafe` may stand: the attribute of a function that C calls.
+const EXPORTED: &str = "#[unsafe(no_mangle)]";
+
 const SUFFIXES: [&str; 9] = [
     "u8", "u16", "u32", "u64", "usize", "i8", "i16", "i32", "i64",
 ];
@@ -103,6 +109,7 @@ const SUFFIXES: [&str; 9] = [
 /// How often each rule was used.
 #[derive(Debug, Default, PartialEq, Clone)]
 pub struct Counts {
+    pub tactics: usize,
     pub ghost_uses: usize,
     pub contracts: usize,
     pub derives: usize,
@@ -167,6 +174,16 @@ impl<'a> Scanner<'a> {
 
     fn word_length(&self) -> usize {
         self.rest().bytes().take_while(|b| is_word(*b)).count()
+    }
+
+    /// `#![tactic(auto)]`, which the prover alone reads, outside every item.
+    fn tactic(&mut self, depth: usize) -> Result<(), Refusal> {
+        if depth != 0 {
+            return self.refuse(format!("`{TACTIC}` within an item"));
+        }
+        self.counts.tactics += 1;
+        self.erase(TACTIC.len());
+        Ok(())
     }
 
     /// `ghost use PATH;` or `ghost use PATH.{NAMES};`, outside every item.
@@ -313,6 +330,17 @@ impl<'a> Scanner<'a> {
                         self.push(Kind::Word, n);
                     }
                 }
+            } else if self.rest().starts_with(TACTIC) {
+                self.tactic(depth)?;
+            } else if self.rest().starts_with(EXPORTED) {
+                for part in ["#", "[", "unsafe", "(", "no_mangle", ")", "]"] {
+                    let kind = if is_word(part.as_bytes()[0]) {
+                        Kind::Word
+                    } else {
+                        Kind::Sign
+                    };
+                    self.push(kind, part.len());
+                }
             } else if self.rest().starts_with("::") {
                 self.push(Kind::Sign, 2);
             } else if b"-+*%/=<>!&|.,;:(){}[]#_".contains(&b) {
@@ -340,7 +368,7 @@ impl<'a> Scanner<'a> {
     }
 }
 
-/// The tokens of a source, ghost text taken out, and how often the two rules of ghost text were used.
+/// The tokens of a source, ghost text taken out, and how often the rules of ghost text were used.
 pub fn scan(file: &str, text: &str) -> Result<(Vec<Token>, Counts), Refusal> {
     Scanner {
         file,

@@ -161,32 +161,55 @@ fn attributes_and_exports_of_other_forms() {
     refused("#[repr(u8)]\nenum A {}\n", 1, "attribute #[repr(u8)]");
     refused("#[repr(C)]\nenum A {}\n", 1, "something else than a struct");
     refused(
-        "#[no_mangle]\npub fn f() -> u8 {}\n",
+        "#[repr(C)]\n#[derive(Clone, Copy)]\nenum A {}\n",
+        1,
+        "something else than a struct",
+    );
+    refused(
+        "#[derive(Clone, Copy)]\n#[repr(C)]\nstruct A {}\n",
+        1,
+        "something else than a struct or an enum",
+    );
+    refused(
+        "#[derive(Clone)]\nstruct A {}\n",
+        1,
+        "attribute #[derive(Clone)]",
+    );
+    refused(
+        "#[no_mangle]\npub extern \"C\" fn f() {}\n",
+        1,
+        "attribute #[no_mangle]",
+    );
+    refused("#[unsafe(naked)]\npub fn f() {}\n", 1, "the word `unsafe`");
+    refused("#[tactic(auto)]\nfn f() {}\n", 1, "the word `auto`");
+    refused("fn f() {\n    #![tactic(auto)]\n}\n", 2, "within an item");
+    refused(
+        "#[unsafe(no_mangle)]\npub fn f() -> u8 {}\n",
         1,
         "something else than `pub extern",
     );
     refused(
-        "#[no_mangle]\nextern \"C\" fn f() -> u8 {}\n",
+        "#[unsafe(no_mangle)]\nextern \"C\" fn f() -> u8 {}\n",
         1,
         "something else than `pub extern",
     );
     refused(
-        "#[no_mangle]\npub extern \"C\" fn f<'a>() -> u8 {}\n",
+        "#[unsafe(no_mangle)]\npub extern \"C\" fn f<'a>() -> u8 {}\n",
         1,
         "something else than `pub extern",
     );
     refused(
-        "#[no_mangle]\npub extern \"C\" fn f(a: u8) {}\n",
+        "#[unsafe(no_mangle)]\npub extern \"C\" fn f(a: u8) {}\n",
         1,
         "without a result",
     );
     refused(
-        "#[no_mangle]\npub extern \"C\" fn f() -> [u8; 2] {}\n",
+        "#[unsafe(no_mangle)]\npub extern \"C\" fn f() -> [u8; 2] {}\n",
         1,
         "without a result",
     );
     refused(
-        "#[no_mangle]\npub extern \"C\" fn f(\n    mut a: u8,\n) -> u8 {}\n",
+        "#[unsafe(no_mangle)]\npub extern \"C\" fn f(\n    mut a: u8,\n) -> u8 {}\n",
         3,
         "not `NAME: TYPE`",
     );
@@ -202,7 +225,18 @@ fn items_of_other_forms() {
     refused("fn f(a: fn(u8)) {}\n", 1, "`fn` without a name");
     refused("fn f() {\n    panic!(a);\n}\n", 2, "a macro, `panic!`");
     refused("fn f() {\n    a![1];\n}\n", 2, "a macro, `a!`");
-    refused("use rules::{A, B};\n", 1, "`use` of another form");
+    for names in [
+        "", "A, b::C", "A as B", "A, {B}", "self", "A B", "A,, B", "*",
+    ] {
+        refused(
+            &format!("use rules::{{{names}}};\n"),
+            1,
+            "`use` of another form",
+        );
+    }
+    refused("use {rules::A};\n", 1, "`use` of another form");
+    refused("use rules::{A}::B;\n", 1, "`use` of another form");
+    refused("fn f() {\n    rules::{A}\n}\n", 2, "`::` of a form");
     refused("use rules::*;\n", 1, "`use` of another form");
     refused("use rules::A as B;\n", 1, "`use` of another form");
     refused("use rules;\n", 1, "`use` of another form");
@@ -308,7 +342,7 @@ fn modules_and_files_that_do_not_fit() {
 #[test]
 fn the_c_boundary() {
     let f = |parameter: &str, result: &str| {
-        format!("use rules::Pairs;\nuse rules::Reply;\nuse rules::Plain;\n#[no_mangle]\npub extern \"C\" fn f({parameter}) -> {result}\n{{\n}}\n")
+        format!("use rules::Pairs;\nuse rules::Reply;\nuse rules::Plain;\n#[unsafe(no_mangle)]\npub extern \"C\" fn f({parameter}) -> {result}\n{{\n}}\n")
     };
     let below =
         "pub type Pairs = [u64; 4];\n#[repr(C)]\npub struct Reply {\n}\npub struct Plain {\n}\n";
@@ -341,7 +375,7 @@ fn the_c_boundary() {
             source(
                 "rules",
                 "lib",
-                "\n#[no_mangle]\npub extern \"C\" fn f() -> u8\n{\n}\n",
+                "\n#[unsafe(no_mangle)]\npub extern \"C\" fn f() -> u8\n{\n}\n",
             ),
             source("tamburelvi", "lib", ""),
         ],

@@ -37,6 +37,17 @@ fn ghost_use_goes() {
 }
 
 #[test]
+fn the_line_for_the_provers_tactics_goes() {
+    let text = "// first\n\n#![tactic(auto)]\n\nconst A: u8 = 1;\n";
+    assert_eq!(body(text), "// first\n\n\n\nconst A: u8 = 1;\n");
+    assert_eq!(
+        without_ghost("own.rt", text).unwrap(),
+        "// first\n\n\n\nconst A: u8 = 1;\n"
+    );
+    assert_eq!(erased(text).counts.tactics, 1);
+}
+
+#[test]
 fn contracts_go_with_their_names_and_line_breaks() {
     let text = "fn f(a: u8) -> u8\n    requires { ⌜ a { b } ⌝ }\n    requires room { ⌜ x ⌝ }\n    ensures told { λ r.\n        ⌜ r ⌝ }\n{\n    a\n}\n";
     let plain = "fn f(a: u8) -> u8\n\n\n\n\n{\n    a\n}\n";
@@ -55,10 +66,10 @@ fn contracts_of_a_method_and_behind_an_array_go() {
 }
 
 #[test]
-fn structs_and_enums_may_be_copied() {
-    let e = erased("pub struct A(pub u8);\nenum B {\n    C,\n}\n#[repr(C)]\npub struct D {\n    pub a: u8,\n}\n");
-    let plain = "#[derive(Clone, Copy)] pub struct A(pub u8);\n#[derive(Clone, Copy)] enum B {\n    C,\n}\n#[repr(C)]\n#[derive(Clone, Copy)] pub struct D {\n    pub a: u8,\n}\n";
-    assert!(e.text.ends_with(plain), "{}", e.text);
+fn structs_and_enums_that_may_be_copied_stay_so() {
+    let text = "#[derive(Clone, Copy)]\npub struct A(pub u8);\n#[derive(Clone, Copy)]\nenum B {\n    C,\n}\n#[repr(C)]\n#[derive(Clone, Copy)]\npub struct D {\n    pub a: u8,\n}\nstruct E(u8);\n";
+    let e = erased(text);
+    assert!(e.text.ends_with(text), "{}", e.text);
     assert_eq!(e.counts.derives, 3);
     assert_eq!(e.layouts, ["D"]);
 }
@@ -76,6 +87,20 @@ fn paths_begin_with_the_crates_module() {
 }
 
 #[test]
+fn names_in_braces_are_imported_each() {
+    let e = erased(
+        "use rules::{Cid, word};\npub use crate::part::{\n    g, h,\n};\nuse crate::{Row};\n",
+    );
+    let plain = "use crate::rules::{Cid, word};\npub use crate::own::part::{\n    g, h,\n};\nuse crate::own::{Row};\n";
+    assert!(e.text.ends_with(plain), "{}", e.text);
+    assert_eq!(e.counts.paths, 3);
+    assert_eq!(e.imports["Cid"], "crate::rules::Cid");
+    assert_eq!(e.imports["word"], "crate::rules::word");
+    assert_eq!(e.imports["h"], "crate::own::part::h");
+    assert_eq!(e.imports["Row"], "crate::own::Row");
+}
+
+#[test]
 fn wrapping_arithmetic_is_the_types_own() {
     let e = erased("fn f(a: u8, b: u64) {\n    std::num::wrapping_sub_u8(a, 1);\n    std::num::wrapping_add_u64(b, 1)\n}\n");
     assert!(
@@ -89,7 +114,7 @@ fn wrapping_arithmetic_is_the_types_own() {
 
 #[test]
 fn exports_lose_their_attribute_and_are_listed() {
-    let e = erased("// first\n#[no_mangle]\npub extern \"C\" fn f(\n    a: &mut Rows,\n    b: &[u8],\n    c: u8,\n) -> Reply\n    ensures { x }\n{\n    g()\n}\n");
+    let e = erased("// first\n#[unsafe(no_mangle)]\npub extern \"C\" fn f(\n    a: &mut Rows,\n    b: &[u8],\n    c: u8,\n) -> Reply\n    ensures { x }\n{\n    g()\n}\n");
     let plain = "// first\n\npub fn f(\n    a: &mut Rows,\n    b: &[u8],\n    c: u8,\n) -> Reply\n\n{\n    g()\n}\n";
     assert!(e.text.ends_with(plain), "{}", e.text);
     assert_eq!(e.counts.exports, 1);
