@@ -1,4 +1,7 @@
 // The receiver for programs in C and Rust: headers, settings, packets and answers are structs of numbers, by value; the memory is lent to every call.
+
+#![tactic(auto)]
+
 ghost use Rattle.std.specs.Prelude.{◌≡◌, length};
 ghost use Rattle.settings.specs.Settings.{fresh, with_preview, with_discovery, with_termination, with_timeout, with_merge, without_limit, limited, expiring, number_of};
 ghost use Rattle.settings_store.specs.declared.Layouts.TheVariants.{First, Both};
@@ -13,7 +16,7 @@ ghost use Rattle.lengths.specs.Space.{bytes};
 ghost use Rattle.laws.specs.Lent.{untouched};
 ghost use Rattle.receiver.specs.View.{Memory, with_listened_rows, state_of, KeptWaiting, KeptDiscovery, Kept, Begins, Becomes};
 ghost use Rattle.sequences.specs.Promises.{sequence_rows_in};
-ghost use Rattle.receiver.specs.Promises.{lent_in, lent, sequences_lent, waiting_lent, listened_lent, discovery_lent};
+ghost use Rattle.receiver.specs.Promises.{data_packet_lent_in, data_packet_lent, sync_packet_lent_in, sync_packet_lent, discovery_packet_lent_in, discovery_packet_lent, sequences_lent, waiting_lent, listened_lent, discovery_lent};
 ghost use Rattle.boundary.specs.Boundary.{receiver_of, settings_of, packet_in, sync_in, announced_in};
 ghost use Rattle.tamburelvi.specs.Promises.{Replies, Answers, StoresSettings, LoadsSettings};
 ghost use Rattle.model.specs.Step.{most_listened};
@@ -57,8 +60,8 @@ pub extern "C" fn tamburelvi_handle_data_packet(
     out: &mut [u8],
 ) -> Reply
     requires { Kept (receiver_of header)
-        (lent_in data_pairs data_sources sync_pairs sync_sources rows store heard sources names pages universes) }
-    ensures { let m = lent data_pairs data_sources sync_pairs sync_sources rows store heard sources names pages universes in
+        (data_packet_lent_in data_pairs data_sources sync_pairs sync_sources rows store heard sources names pages universes) }
+    ensures { let m = data_packet_lent data_pairs data_sources sync_pairs sync_sources rows store heard sources names pages universes in
         Replies (settings_of choices) reading (data_packet (packet_in «data» values.now))
         header m.entry out.old result m.exit out.new }
 {
@@ -108,8 +111,8 @@ pub extern "C" fn tamburelvi_handle_sync_packet(
     out: &mut [u8],
 ) -> Reply
     requires { Kept (receiver_of header)
-        (lent_in data_pairs data_sources sync_pairs sync_sources rows store heard sources names pages universes) }
-    ensures { let m = lent data_pairs data_sources sync_pairs sync_sources rows store heard sources names pages universes in
+        (sync_packet_lent_in data_pairs data_sources sync_pairs sync_sources rows store heard sources names pages universes) }
+    ensures { let m = sync_packet_lent data_pairs data_sources sync_pairs sync_sources rows store heard sources names pages universes in
         Replies (settings_of choices) reading (sync_packet (sync_in sync))
         header m.entry out.old result m.exit out.new }
 {
@@ -160,8 +163,8 @@ pub extern "C" fn tamburelvi_handle_universe_discovery_packet(
     out: &[u8],
 ) -> Reply
     requires { Kept (receiver_of header)
-        (lent_in data_pairs data_sources sync_pairs sync_sources rows store heard sources names pages universes) }
-    ensures { let m = lent data_pairs data_sources sync_pairs sync_sources rows store heard sources names pages universes in
+        (discovery_packet_lent_in data_pairs data_sources sync_pairs sync_sources rows store heard sources names pages universes) }
+    ensures { let m = discovery_packet_lent data_pairs data_sources sync_pairs sync_sources rows store heard sources names pages universes in
         Replies (settings_of choices) reading (discovery_packet (announced_in page name.now list.now))
         header m.entry out.now result m.exit out.now }
 {

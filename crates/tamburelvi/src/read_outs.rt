@@ -128,7 +128,7 @@ pub extern "C" fn tamburelvi_page_at(
 ) -> PageRead
     requires { length pages.now ≡ most_pages }
     ensures placed { (universes : List ℕ) →
-        PageAt mark (record { hi = hi; lo = lo }) at result.place (receiverOf header).discovery pages.now universes }
+        PageAt mark (record { hi = hi; lo = lo }) at result.place (receiver_of header).discovery pages.now universes }
     ensures told { result.place < (receiver_of header).discovery.page_count → (universes : List ℕ) → length universes ≤ longest →
         page_of_row pages.now universes result.place ≡ page_read result universes }
     ensures past { (receiver_of header).discovery.page_count ≤ result.place → result ≡ no_page result.place }

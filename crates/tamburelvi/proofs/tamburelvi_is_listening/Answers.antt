@@ -1,0 +1,14 @@
+-- What the receiver ensures, told over the boundary.
+-- Assumes nothing.
+use mathlib.Core.Path.{◌≡◌, sym, subst}
+use Rattle.listening.specs.View as listening
+use Rattle.model.specs.State.{listens}
+use Rattle.receiver.specs.declared.Receiver.{Receiver}
+use Rattle.receiver.specs.View.{with_listened_rows, state_of}
+use borrow.Author.Rules.{rules}
+use Rattle.tamburelvi.proofs.tamburelvi_is_listening.Goals as goal
+
+pub returns : goal.returns
+returns c m =
+    let v = c.args in
+    subst (λ (x : Receiver). c.is_listening.result ≡ listens v.universe (state_of x (with_listened_rows v.heard.now m)).listened) c.receiver_of-receiver.ensures (c.is_listening.ensures m)

@@ -1,0 +1,8 @@
+-- What the receiver ensures, told over the boundary.
+-- Assumes nothing.
+use Rattle.tamburelvi.specs.Laws.{begun}
+use borrow.Author.Rules.{rules}
+use Rattle.tamburelvi.proofs.tamburelvi_new.Goals as goal
+
+pub returns : goal.returns
+returns c m = begun _ _ _ (c.new-receiver.ensures m) c.header_of.ensures
