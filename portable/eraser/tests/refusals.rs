@@ -5,7 +5,6 @@ mod own;
 use eraser::erase::without_ghost;
 use eraser::package::{package, read, Source, Sources};
 use eraser::scan::{Refusal, KEYWORDS, REFUSED_WORDS};
-use std::path::PathBuf;
 
 fn refusal(text: &str) -> Refusal {
     match own::erased(text) {
@@ -404,20 +403,22 @@ fn the_c_boundary() {
     assert_eq!(p.symbols, 1);
 }
 
-/// A repository in a folder of its own, with these files.
-fn repository(name: &str, files: &[(&str, &str)]) -> PathBuf {
-    let folder = PathBuf::from(env!("CARGO_TARGET_TMPDIR")).join(name);
-    let _ = std::fs::remove_dir_all(&folder);
+/// What is read of a repository with these files. It stands among the temporary files, since `rt ci` refuses a source that no crate of
+/// this repository has.
+fn read_repository(name: &str, files: &[(&str, &str)]) -> Result<Sources, Refusal> {
+    let folder = std::env::temp_dir().join(format!("eraser-{}-{name}", std::process::id()));
     for (path, text) in files {
         let path = folder.join(path);
         std::fs::create_dir_all(path.parent().unwrap()).unwrap();
         std::fs::write(path, text).unwrap();
     }
-    folder
+    let found = read(&folder);
+    std::fs::remove_dir_all(&folder).unwrap();
+    found
 }
 
 fn refused_repository(name: &str, files: &[(&str, &str)], place: &str, why: &str) {
-    match read(&repository(name, files)) {
+    match read_repository(name, files) {
         Ok(_) => panic!("not refused: {name}"),
         Err(r) => assert!(
             r.to_string().starts_with(place) && r.why.contains(why),
@@ -486,9 +487,8 @@ fn repositories_of_other_forms() {
         "crates/tamburelvi/src/a: ",
         "not a .rt file",
     );
-    assert!(read(&repository(
-        "good",
-        &[("crates.txt", "# said\ntamburelvi:\n"), lib]
-    ))
-    .is_ok());
+    let good = read_repository("good", &[("crates.txt", "# said\ntamburelvi:\n"), lib]);
+    assert!(good.is_ok());
+    let archive = read_repository("archive", &[("crates.txt", "tamburelvi staticlib:\n"), lib]);
+    assert_eq!(archive.unwrap().wanted, ["tamburelvi"]);
 }
