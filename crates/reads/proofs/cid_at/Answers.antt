@@ -4,8 +4,7 @@ use mathlib.Core.Path.{sym, ◌∙◌}
 use mathlib.Core.List.{[]}
 use native.Mathlib.Omega.{arith}
 use Rattle.pair_rows.specs.View.{cid_of}
-use Rattle.reads.specs.Reads.{zero_cid, none_in_use, none_there, entry_at}
-use borrow.Author.Rules.{rules}
+use Rattle.reads.specs.Reads.{zero_cid, none_in_use, none_there}
 use Rattle.reads.proofs.cid_at.Goals as goal
 
 pub returns-then-count-at : goal.returns-then-count-at

@@ -6,7 +6,6 @@ use lib.ListN.{get_or}
 use Rattle.merge.specs.Merge.{Dmx}
 use Rattle.waiting_store.specs.Entries.{nothing}
 use Rattle.reads.specs.Reads.{waiting_within}
-use borrow.Author.Rules.{rules}
 use Rattle.reads.proofs.waiting_at.Goals as goal
 
 pub returns : goal.returns

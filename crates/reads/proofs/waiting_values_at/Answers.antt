@@ -8,7 +8,6 @@ use Rattle.merge.specs.Merge.{Dmx}
 use Rattle.waiting_store.specs.Entries.{nothing}
 use Rattle.waiting_calls.specs.Calls.{values_past}
 use Rattle.reads.specs.Reads.{values_lie, waiting_within}
-use borrow.Author.Rules.{rules}
 use Rattle.reads.proofs.waiting_values_at.Goals as goal
 
 pub returns-then-waiting-at : goal.returns-then-waiting-at

@@ -1,18 +1,12 @@
 -- What the receiver's call ensures, told over the boundary.
 -- Assumes nothing.
-use mathlib.Core.Path.{sym, subst}
-use Prim.Native.Nat.{◌≤◌}
 use lib.ListN.{length}
-use Rattle.waiting.specs.Waiting.{store_length}
-use Rattle.waiting_store.specs.Entries as waiting
 use Rattle.model.specs.Answer.{clear_number, clear_values}
 use Rattle.model.specs.Calls.{clear_call}
 use Rattle.receiver.specs.View.{with_waiting_rows}
-use Rattle.receiver.specs.declared.Receiver.{Receiver}
 use Rattle.boundary.specs.Boundary.{cleared_of}
 use Rattle.tamburelvi.specs.Laws.{answers}
 use Rattle.boundary.proofs.Laws.{tells_clear}
-use borrow.Author.Rules.{rules}
 use Rattle.tamburelvi.proofs.tamburelvi_clear_waiting_data.Goals as goal
 
 pub returns : goal.returns

@@ -4,8 +4,7 @@ use mathlib.Core.Path.{ap}
 use Rattle.model.specs.Packet.{discovery_packet}
 use Rattle.receiver.specs.View.{memory}
 use Rattle.boundary.specs.Boundary.{settings_of, announced_in}
-use Rattle.tamburelvi.specs.Laws.{kept_there, replies}
-use borrow.Author.Rules.{rules}
+use Rattle.tamburelvi.specs.Laws.{replies}
 use Rattle.tamburelvi.proofs.tamburelvi_handle_universe_discovery_packet.Goals as goal
 
 pub returns : goal.returns

@@ -1,11 +1,9 @@
 -- What the receiver ensures, told over the boundary.
 -- Assumes nothing.
-use mathlib.Core.Path.{◌≡◌, sym, subst}
-use Rattle.listening.specs.View as listening
+use mathlib.Core.Path.{◌≡◌, subst}
 use Rattle.model.specs.State.{listens}
 use Rattle.receiver.specs.declared.Receiver.{Receiver}
 use Rattle.receiver.specs.View.{with_listened_rows, state_of}
-use borrow.Author.Rules.{rules}
 use Rattle.tamburelvi.proofs.tamburelvi_is_listening.Goals as goal
 
 pub returns : goal.returns

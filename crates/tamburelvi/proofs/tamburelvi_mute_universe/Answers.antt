@@ -1,15 +1,11 @@
 -- What the receiver's call ensures, told over the boundary.
 -- Assumes nothing.
-use mathlib.Core.Path.{sym, subst}
-use Rattle.listening.specs.View as listening
 use Rattle.model.specs.Answer.{mute_number, mute_values}
 use Rattle.model.specs.Calls.{mute_call}
 use Rattle.receiver.specs.View.{with_listened_rows}
-use Rattle.receiver.specs.declared.Receiver.{Receiver}
 use Rattle.boundary.specs.Boundary.{muted_of}
 use Rattle.tamburelvi.specs.Laws.{answers}
 use Rattle.boundary.proofs.Laws.{tells_mute}
-use borrow.Author.Rules.{rules}
 use Rattle.tamburelvi.proofs.tamburelvi_mute_universe.Goals as goal
 
 pub returns : goal.returns

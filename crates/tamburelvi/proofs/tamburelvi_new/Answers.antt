@@ -1,7 +1,6 @@
 -- What the receiver ensures, told over the boundary.
 -- Assumes nothing.
 use Rattle.tamburelvi.specs.Laws.{begun}
-use borrow.Author.Rules.{rules}
 use Rattle.tamburelvi.proofs.tamburelvi_new.Goals as goal
 
 pub returns : goal.returns

@@ -1,21 +1,15 @@
 -- What the receiver's call ensures, told over the boundary.
 -- Assumes nothing.
-use mathlib.Core.Path.{sym, subst}
-use Prim.Native.Nat.{◌≤◌}
+use mathlib.Core.Path.{subst}
 use lib.ListN.{length}
 use Rattle.settings.specs.declared.Settings.{Settings}
 use Rattle.sequences.specs.View.{lent}
-use Rattle.sequences.specs.View as sequences
-use Rattle.waiting.specs.Waiting.{store_length}
-use Rattle.waiting_store.specs.Entries as waiting
 use Rattle.model.specs.Answer.{poll_number, poll_values}
 use Rattle.model.specs.Calls.{poll_call}
 use Rattle.receiver.specs.View.{with_sequence_rows, with_waiting_rows, Does}
-use Rattle.receiver.specs.declared.Receiver.{Receiver}
 use Rattle.boundary.specs.Boundary.{settings_of, polled_of}
 use Rattle.tamburelvi.specs.Laws.{answers}
 use Rattle.boundary.proofs.Laws.{tells_poll}
-use borrow.Author.Rules.{rules}
 use Rattle.tamburelvi.proofs.tamburelvi_poll.Goals as goal
 
 pub returns : goal.returns

@@ -1,20 +1,14 @@
 -- What the receiver's call ensures, told over the boundary.
 -- Assumes nothing.
-use mathlib.Core.Path.{sym, subst}
-use Prim.Native.Nat.{◌≤◌}
-use lib.ListN.{length}
+use mathlib.Core.Path.{subst}
 use Rattle.settings.specs.declared.Settings.{Settings}
-use Rattle.discovery_calls.specs.View as discovery
 use Rattle.lengths.specs.Space.{bytes}
 use Rattle.model.specs.Answer.{expiry_number, expiry_values}
 use Rattle.model.specs.Calls.{expiry_call}
-use Rattle.discovery.specs.Discovery.{pool_length}
 use Rattle.receiver.specs.View.{with_discovery_rows, Does}
-use Rattle.receiver.specs.declared.Receiver.{Receiver}
 use Rattle.boundary.specs.Boundary.{settings_of, swept_of}
 use Rattle.tamburelvi.specs.Laws.{answers}
 use Rattle.boundary.proofs.Laws.{tells_expiry}
-use borrow.Author.Rules.{rules}
 use Rattle.tamburelvi.proofs.tamburelvi_remove_expired_sources.Goals as goal
 
 pub returns : goal.returns
