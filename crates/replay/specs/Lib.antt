@@ -3,3 +3,4 @@ pub mod DumpLaws
 pub mod Session
 pub mod SessionLaws
 pub mod SpokenLaws
+pub mod Promises

@@ -1,6 +1,6 @@
 -- One law for each kind of command.
 -- Assumes nothing.
-use Rattle.std.specs.Prelude.{◌≡◌, refl, List, [], ℕ, ◌+◌, ◌-◌, ◌≤◌, take, replicate}
+use Rattle.std.specs.Prelude.{◌≡◌, List, [], ℕ, ◌+◌, ◌-◌, ◌≤◌, take, replicate}
 use Rattle.std.proofs.Common.{sym, ap, subst, ◌∙◌, arith, take_at}
 use Rattle.std.proofs.lemmas.List.{length-replicate, replicate-append-replicate}
 use Rattle.rules.specs.Answer.{Value}
@@ -10,7 +10,6 @@ use Rattle.waiting.specs.Records.{records, over}
 use Rattle.model.specs.declared.StepAnswer.{StepAnswer}
 use Rattle.model.specs.Packet.{Packet}
 use Rattle.model.specs.State.{State}
-use Rattle.model.specs.State as model
 use Rattle.model.specs.Step.{step}
 use Rattle.model.specs.Step as rules
 use Rattle.receiver.specs.declared.Receiver.{Receiver}
@@ -19,7 +18,7 @@ use Rattle.handlers.specs.View.{Steps}
 use Rattle.replay.specs.declared.calls.Session.{Session}
 use Rattle.printing.specs.Text.{Tells}
 use Rattle.printing.specs.TextLaws.{tells_as}
-use Rattle.printing.specs.Answers.{answer_line, flag_line, step_line}
+use Rattle.printing.specs.Answers.{answer_line, step_line}
 use Rattle.replay.specs.Session.{Outcome, outcome, begun, called, changed, stepped, Fit, Carries}
 
 -- the lengths of the lent arrays, out of what calls keep

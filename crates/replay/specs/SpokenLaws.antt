@@ -1,6 +1,6 @@
 -- A command's counts are those of its line, so what the lent memory holds behind them plays no part.
 -- Assumes nothing.
-use Rattle.std.specs.Prelude.{◌≡◌, refl, Bool, true, false, cond, List, [], ℕ, ltb, length, take}
+use Rattle.std.specs.Prelude.{◌≡◌, refl, Bool, true, false, List, [], ℕ, ltb, length, take}
 use Rattle.std.proofs.Common.{sym, ap, ◌∙◌}
 use Rattle.std.proofs.Math.Option.{Option, none, some}
 use Rattle.std.proofs.Math.Seq.{take-length}
@@ -47,7 +47,7 @@ use Rattle.script.specs.Fields.{eql, ending, number_of, small_of, octet_of, flag
 use Rattle.script.specs.Script
 use Rattle.script.specs.Script.{Reading, Reads, plain, first_of, rest_of, past_five, lone_of, word_of, flagged, aimed, timed, merge_of, limit_number, limit_of, expiry_said, raw_limit_said, raw_expiry_said, store_said, layouts_of, load_bytes, load_known, record_of, stamp_of, numbers_of, data_values, data_numbers, data_stamp, data_of, sync_sequence, sync_address, sync_stamp, sync_of, page_universes, page_name, page_last, page_number, page_stamp, discovery_of, listen_list, fields_of, line_of}
 use Rattle.script.specs.Lines.{silent}
-use Rattle.replay.specs.Session.{Outcome, outcome, called, stepped, refused, restored, carried, spoken}
+use Rattle.replay.specs.Session.{outcome, called, stepped, refused, restored, carried, spoken}
 
 -- the counts of a command are the lengths of its bytes and numbers
 abbrev Counted : Command → List ℕ → List ℕ → Type 0

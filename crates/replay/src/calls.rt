@@ -12,7 +12,7 @@ ghost use Rattle.packets.specs.View.{packet_of, sync_of};
 ghost use Rattle.model.specs.Packet.{data_packet, sync_packet, discovery_packet};
 ghost use Rattle.model.specs.Calls.{poll_call, expiry_call, listen_call, mute_call, clear_call, clear_all_call};
 ghost use Rattle.model.specs.Answer.{poll_number, poll_values, expiry_number, expiry_values, listen_number, listen_values, mute_number, mute_values, clear_number, clear_values};
-ghost use Rattle.receiver.specs.Promises.{lent, lent_in};
+ghost use Rattle.receiver.specs.Promises.{data_packet_lent, data_packet_lent_in, sync_packet_lent, sync_packet_lent_in, discovery_packet_lent, discovery_packet_lent_in};
 ghost use Rattle.discovery.specs.Discovery.{pool_length};
 ghost use Rattle.receiver.specs.View.{Memory, memory, with_sequence_rows, with_waiting_rows, with_listened_rows, with_discovery_rows, state_of, space_in, Kept, Becomes};
 ghost use Rattle.packets.specs.View.{announcement_of};
@@ -34,6 +34,7 @@ use script::parse::{DataLine, PageLine, Reset, SettingsLine, SyncLine};
 use settings::{Adjusted, Settings, SourceLimit};
 use settings_calls::{load_settings, store_settings};
 use settings_store::{Layouts, LoadSettingsAnswer};
+use std::io::Stdout;
 use waiting_store::EntryRows;
 
 // What one command leaves for the next: the receiver, its settings, and how much is still to be written out.
@@ -44,14 +45,14 @@ pub struct Session {
     pub at: usize,
 }
 
-pub fn begin(session: Session, heard: &mut ListenedUniverses, out: &mut [u8]) -> Session
+pub fn begin(session: Session, heard: &mut ListenedUniverses, to: Stdout, out: &mut [u8]) -> Session
     requires { (length heard.old ≡ most_listened) × Ready session.at out.old }
     ensures { (m : Memory) → Carries session m out.old begun result (with_listened_rows heard.new m)
         out.new }
 {
     let receiver = Receiver::new(heard);
     let settings = Settings::new();
-    let at = put_number(out, session.at, 0);
+    let at = put_number(to, out, session.at, 0);
     Session {
         receiver: receiver,
         settings: settings,
@@ -60,13 +61,13 @@ pub fn begin(session: Session, heard: &mut ListenedUniverses, out: &mut [u8]) ->
 }
 
 // The settings are set; nothing can stop it.
-pub fn set(session: Session, settings: Settings, out: &mut [u8]) -> Session
+pub fn set(session: Session, settings: Settings, to: Stdout, out: &mut [u8]) -> Session
     requires { Ready session.at out.old }
     ensures { (m : Memory) → Carries session m out.old (set_to settings (state_of session.receiver m)) result m
         out.new }
 {
     let receiver = session.receiver;
-    let at = put_number(out, session.at, 0);
+    let at = put_number(to, out, session.at, 0);
     Session {
         receiver: receiver,
         settings: settings,
@@ -75,7 +76,7 @@ pub fn set(session: Session, settings: Settings, out: &mut [u8]) -> Session
 }
 
 // The settings are set or, where the setter refuses, left.
-pub fn set_answered(session: Session, adjusted: Adjusted, out: &mut [u8]) -> Session
+pub fn set_answered(session: Session, adjusted: Adjusted, to: Stdout, out: &mut [u8]) -> Session
     requires { Ready session.at out.old }
     ensures { (m : Memory) → Carries session m out.old (answered adjusted (state_of session.receiver m)) result m
         out.new }
@@ -83,7 +84,7 @@ pub fn set_answered(session: Session, adjusted: Adjusted, out: &mut [u8]) -> Ses
     let receiver = session.receiver;
     let settings = adjusted.settings;
     let answer = adjusted.answer;
-    let at = put_setting(out, session.at, answer);
+    let at = put_setting(to, out, session.at, answer);
     Session {
         receiver: receiver,
         settings: settings,
@@ -117,7 +118,7 @@ pub fn with_raw_expiry(s: Settings, expiry: u32) -> Settings
 }
 
 // The writer on lent bytes; the settings are left.
-fn store(session: Session, lent: &mut [u8], out: &mut [u8]) -> Session
+fn store(session: Session, lent: &mut [u8], to: Stdout, out: &mut [u8]) -> Session
     requires { Ready session.at out.old }
     ensures { (m : Memory) → Carries session m out.old
         (stored lent.old session.settings (state_of session.receiver m)) result m out.new }
@@ -125,7 +126,7 @@ fn store(session: Session, lent: &mut [u8], out: &mut [u8]) -> Session
     let receiver = session.receiver;
     let settings = session.settings;
     let answer = store_settings(settings, &mut *lent);
-    let at = put_store(out, session.at, answer, &*lent);
+    let at = put_store(to, out, session.at, answer, &*lent);
     Session {
         receiver: receiver,
         settings: settings,
@@ -141,14 +142,14 @@ fn blank() -> [u8; 255]
 }
 
 // The writer on so many of them.
-fn store_on(session: Session, len: u8, out: &mut [u8]) -> Session
+fn store_on(session: Session, len: u8, to: Stdout, out: &mut [u8]) -> Session
     requires { Ready session.at out.old }
     ensures { (m : Memory) → Carries session m out.old
         (stored (replicate len 0xCC) session.settings (state_of session.receiver m)) result m out.new }
 {
     let n = len as usize;
     let mut lent = blank();
-    store(session, &mut lent[..n], out)
+    store(session, &mut lent[..n], to, out)
 }
 
 // The settings that were read or, where the reader stops, those of before.
@@ -162,7 +163,7 @@ fn settings_read(answer: LoadSettingsAnswer, before: Settings) -> Settings
     }
 }
 
-fn load(session: Session, layouts: Layouts, bytes: &[u8], out: &mut [u8]) -> Session
+fn load(session: Session, layouts: Layouts, bytes: &[u8], to: Stdout, out: &mut [u8]) -> Session
     requires { Ready session.at out.old }
     ensures { (m : Memory) → Carries session m out.old
         (restored layouts «bytes».now session.settings (state_of session.receiver m)) result m out.new }
@@ -171,7 +172,7 @@ fn load(session: Session, layouts: Layouts, bytes: &[u8], out: &mut [u8]) -> Ses
     let before = session.settings;
     let answer = load_settings(layouts, bytes);
     let settings = settings_read(answer, before);
-    let at = put_load(out, session.at, answer);
+    let at = put_load(to, out, session.at, answer);
     Session {
         receiver: receiver,
         settings: settings,
@@ -179,14 +180,14 @@ fn load(session: Session, layouts: Layouts, bytes: &[u8], out: &mut [u8]) -> Ses
     }
 }
 
-fn tell(session: Session, out: &mut [u8]) -> Session
+fn tell(session: Session, to: Stdout, out: &mut [u8]) -> Session
     requires { Ready session.at out.old }
     ensures { (m : Memory) → Carries session m out.old
         (shown session.settings (state_of session.receiver m)) result m out.new }
 {
     let receiver = session.receiver;
     let settings = session.settings;
-    let at = put_settings(out, session.at, settings);
+    let at = put_settings(to, out, session.at, settings);
     Session {
         receiver: receiver,
         settings: settings,
@@ -195,15 +196,21 @@ fn tell(session: Session, out: &mut [u8]) -> Session
 }
 
 // The settings are written, read or shown.
-pub fn carry_settings(session: Session, line: SettingsLine, bytes: &[u8], out: &mut [u8]) -> Session
+pub fn carry_settings(
+    session: Session,
+    line: SettingsLine,
+    bytes: &[u8],
+    to: Stdout,
+    out: &mut [u8],
+) -> Session
     requires { Ready session.at out.old }
     ensures { (m : Memory) → Carries session m out.old
         (recorded «bytes».now line session.settings (state_of session.receiver m)) result m out.new }
 {
     match line {
-        SettingsLine::Store(len) => store_on(session, len, out),
-        SettingsLine::Load(n, layouts) => load(session, layouts, front(bytes, n), out),
-        SettingsLine::Show => tell(session, out),
+        SettingsLine::Store(len) => store_on(session, len, to, out),
+        SettingsLine::Load(n, layouts) => load(session, layouts, front(bytes, n), to, out),
+        SettingsLine::Show => tell(session, to, out),
     }
 }
 
@@ -212,6 +219,7 @@ pub fn listen(
     heard: &mut ListenedUniverses,
     list: &[u16],
     n: usize,
+    to: Stdout,
     out: &mut [u8],
 ) -> Session
     requires { listening.Kept session.receiver.listened heard.old × Ready session.at out.old }
@@ -225,7 +233,7 @@ pub fn listen(
     let a = r.listen_universes(heard, front_numbers(list, n));
     let receiver = a.receiver;
     let answer = a.answer;
-    let at = put_listen(out, session.at, answer);
+    let at = put_listen(to, out, session.at, answer);
     Session {
         receiver: receiver,
         settings: settings,
@@ -237,6 +245,7 @@ pub fn mute(
     session: Session,
     heard: &mut ListenedUniverses,
     universe: u16,
+    to: Stdout,
     out: &mut [u8],
 ) -> Session
     requires { listening.Kept session.receiver.listened heard.old × Ready session.at out.old }
@@ -250,7 +259,7 @@ pub fn mute(
     let a = r.mute_universe(heard, universe);
     let receiver = a.receiver;
     let answer = a.answer;
-    let at = put_mute(out, session.at, answer);
+    let at = put_mute(to, out, session.at, answer);
     Session {
         receiver: receiver,
         settings: settings,
@@ -258,7 +267,13 @@ pub fn mute(
     }
 }
 
-pub fn ask(session: Session, heard: &ListenedUniverses, universe: u16, out: &mut [u8]) -> Session
+pub fn ask(
+    session: Session,
+    heard: &ListenedUniverses,
+    universe: u16,
+    to: Stdout,
+    out: &mut [u8],
+) -> Session
     requires { listening.Kept session.receiver.listened heard.now × Ready session.at out.old }
     ensures { (m : Memory) → Carries session (with_listened_rows heard.now m) out.old
         (asked universe session.settings (state_of session.receiver (with_listened_rows heard.now m))) result
@@ -267,7 +282,7 @@ pub fn ask(session: Session, heard: &ListenedUniverses, universe: u16, out: &mut
     let receiver = session.receiver;
     let settings = session.settings;
     let held = receiver.is_listening(heard, universe);
-    let at = put_flag(out, session.at, held);
+    let at = put_flag(to, out, session.at, held);
     Session {
         receiver: receiver,
         settings: settings,
@@ -284,6 +299,7 @@ pub fn poll(
     rows: &mut EntryRows,
     store: &mut [u8],
     reading: u64,
+    to: Stdout,
     out: &mut [u8],
 ) -> Session
     requires { sequences.Kept session.receiver.sequences
@@ -314,7 +330,7 @@ pub fn poll(
     );
     let receiver = a.receiver;
     let answer = a.answer;
-    let at = put_poll(out, session.at, answer);
+    let at = put_poll(to, out, session.at, answer);
     Session {
         receiver: receiver,
         settings: settings,
@@ -329,6 +345,7 @@ pub fn sweep(
     pages: &mut PageRows,
     universes: &mut [u16],
     reading: u64,
+    to: Stdout,
     out: &mut [u8],
 ) -> Session
     requires { (pool_length ≤ length universes.old → discovery.Kept session.receiver.discovery sources.old names.old
@@ -346,7 +363,7 @@ pub fn sweep(
     let a = r.remove_expired_sources(sources, names, pages, universes, settings, reading);
     let receiver = a.receiver;
     let answer = a.answer;
-    let at = put_expiry(out, session.at, answer);
+    let at = put_expiry(to, out, session.at, answer);
     Session {
         receiver: receiver,
         settings: settings,
@@ -359,6 +376,7 @@ pub fn clear(
     rows: &mut EntryRows,
     store: &mut [u8],
     universe: u16,
+    to: Stdout,
     out: &mut [u8],
 ) -> Session
     requires { (store_length ≤ length store.old → waiting.Kept session.receiver.waiting.count rows.old store.old) ×
@@ -373,7 +391,7 @@ pub fn clear(
     let a = r.clear_waiting_data(rows, store, universe);
     let receiver = a.receiver;
     let answer = a.answer;
-    let at = put_clear(out, session.at, answer);
+    let at = put_clear(to, out, session.at, answer);
     Session {
         receiver: receiver,
         settings: settings,
@@ -381,7 +399,7 @@ pub fn clear(
     }
 }
 
-pub fn clear_all(session: Session, out: &mut [u8]) -> Session
+pub fn clear_all(session: Session, to: Stdout, out: &mut [u8]) -> Session
     requires { Ready session.at out.old }
     ensures { (m : Memory) → Carries session m out.old
         (changed clear_all_call session.settings (state_of session.receiver m)) result m out.new }
@@ -389,7 +407,7 @@ pub fn clear_all(session: Session, out: &mut [u8]) -> Session
     let r = session.receiver;
     let settings = session.settings;
     let receiver = r.clear_all_waiting_data();
-    let at = put_number(out, session.at, 0);
+    let at = put_number(to, out, session.at, 0);
     Session {
         receiver: receiver,
         settings: settings,
@@ -407,7 +425,7 @@ fn forget(receiver: Receiver, reset: Reset) -> Receiver
     }
 }
 
-pub fn reset(session: Session, reset: Reset, out: &mut [u8]) -> Session
+pub fn reset(session: Session, reset: Reset, to: Stdout, out: &mut [u8]) -> Session
     requires { Ready session.at out.old }
     ensures { (m : Memory) → Carries session m out.old
         (changed (resetting reset) session.settings (state_of session.receiver m)) result m out.new }
@@ -415,7 +433,7 @@ pub fn reset(session: Session, reset: Reset, out: &mut [u8]) -> Session
     let r = session.receiver;
     let settings = session.settings;
     let receiver = forget(r, reset);
-    let at = put_number(out, session.at, 0);
+    let at = put_number(to, out, session.at, 0);
     Session {
         receiver: receiver,
         settings: settings,
@@ -439,11 +457,12 @@ pub fn step_data(
     line: DataLine,
     bytes: &[u8],
     released: &mut [u8],
+    to: Stdout,
     out: &mut [u8],
 ) -> Session
-    requires { Kept session.receiver (lent_in data_pairs data_sources sync_pairs sync_sources rows store heard
+    requires { Kept session.receiver (data_packet_lent_in data_pairs data_sources sync_pairs sync_sources rows store heard
         sources names pages universes) × Ready session.at out.old }
-    ensures { let m = lent data_pairs data_sources sync_pairs sync_sources rows store heard sources names pages universes in
+    ensures { let m = data_packet_lent data_pairs data_sources sync_pairs sync_sources rows store heard sources names pages universes in
         Carries session m.entry out.old
         (stepped (space_in m.entry released.old) released.old [] line.«now»
         (data_packet (packet_of line.packet (take line.count «bytes».now))) session.settings
@@ -473,7 +492,7 @@ pub fn step_data(
     );
     let receiver = a.receiver;
     let answer = a.answer;
-    let at = put_step(out, session.at, answer, b"", &*released);
+    let at = put_step(to, out, session.at, answer, b"", &*released);
     Session {
         receiver: receiver,
         settings: settings,
@@ -496,11 +515,12 @@ pub fn step_sync(
     universes: &[u16],
     line: SyncLine,
     released: &mut [u8],
+    to: Stdout,
     out: &mut [u8],
 ) -> Session
-    requires { Kept session.receiver (lent_in data_pairs data_sources sync_pairs sync_sources rows store heard
+    requires { Kept session.receiver (sync_packet_lent_in data_pairs data_sources sync_pairs sync_sources rows store heard
         sources names pages universes) × Ready session.at out.old }
-    ensures { let m = lent data_pairs data_sources sync_pairs sync_sources rows store heard sources names pages universes in
+    ensures { let m = sync_packet_lent data_pairs data_sources sync_pairs sync_sources rows store heard sources names pages universes in
         Carries session m.entry out.old
         (stepped (space_in m.entry released.old) released.old [] line.«now»
         (sync_packet (sync_of line.packet)) session.settings (state_of session.receiver m.entry)) result m.exit
@@ -529,7 +549,7 @@ pub fn step_sync(
     );
     let receiver = a.receiver;
     let answer = a.answer;
-    let at = put_step(out, session.at, answer, b"", &*released);
+    let at = put_step(to, out, session.at, answer, b"", &*released);
     Session {
         receiver: receiver,
         settings: settings,
@@ -554,11 +574,12 @@ pub fn step_discovery(
     bytes: &[u8],
     list: &[u16],
     released: &[u8],
+    to: Stdout,
     out: &mut [u8],
 ) -> Session
-    requires { Kept session.receiver (lent_in data_pairs data_sources sync_pairs sync_sources rows store heard
+    requires { Kept session.receiver (discovery_packet_lent_in data_pairs data_sources sync_pairs sync_sources rows store heard
         sources names pages universes) × Ready session.at out.old }
-    ensures { let m = lent data_pairs data_sources sync_pairs sync_sources rows store heard sources names pages universes in
+    ensures { let m = discovery_packet_lent data_pairs data_sources sync_pairs sync_sources rows store heard sources names pages universes in
         Carries session m.entry out.old
         (stepped (space_in m.entry released.now) released.now
         (take line.name «bytes».now) line.«now»
@@ -592,7 +613,7 @@ pub fn step_discovery(
     );
     let receiver = a.receiver;
     let answer = a.answer;
-    let at = put_step(out, session.at, answer, name, released);
+    let at = put_step(to, out, session.at, answer, name, released);
     Session {
         receiver: receiver,
         settings: settings,

@@ -10,7 +10,7 @@ ghost use Rattle.listening.specs.View.{listened_of};
 ghost use Rattle.discovery_pages.specs.Passes.{Packing};
 ghost use Rattle.discovery_calls.specs.View.{Kept as DiscoveryKept, discovered_of};
 ghost use Rattle.discovery_reads.specs.Reads.{pages_of, sources_of};
-ghost use Rattle.receiver.specs.Promises.{lent, lent_in};
+ghost use Rattle.replay.specs.Promises.{shared_lent, shared_lent_in};
 ghost use Rattle.discovery.specs.Discovery.{pool_length};
 ghost use Rattle.receiver.specs.View.{memory, state_of, Kept};
 ghost use Rattle.printing.specs.Text.{Ready, Tells};
@@ -33,32 +33,33 @@ use printing::answers::front;
 use printing::print::{put, put_bit, put_byte_string, put_cid, put_decimal, put_list, put_text};
 use receiver::Receiver;
 use rules::Cid;
+use std::io::Stdout;
 use waiting_calls::Waiting;
 use waiting_store::EntryRows;
 
 // A space and a number.
-fn put_spaced(out: &mut [u8], at: usize, n: u64) -> usize
+fn put_spaced(to: Stdout, out: &mut [u8], at: usize, n: u64) -> usize
     requires { Ready at out.old }
     ensures { Tells (spaced n) out.old at out.new result }
 {
-    let a = put(&mut *out, at, 32);
-    put_decimal(&mut *out, a, n)
+    let a = put(to, &mut *out, at, 32);
+    put_decimal(to, &mut *out, a, n)
 }
 
-fn put_pair(out: &mut [u8], at: usize, mark: u8, pair: Pair) -> usize
+fn put_pair(to: Stdout, out: &mut [u8], at: usize, mark: u8, pair: Pair) -> usize
     requires { Ready at out.old }
     ensures { Tells (pair_line mark pair) out.old at out.new result }
 {
-    let a = put(&mut *out, at, mark);
-    let b = put(&mut *out, a, 32);
-    let d = put_cid(&mut *out, b, pair.cid);
-    let e = put_spaced(&mut *out, d, pair.universe as u64);
-    let f = put_spaced(&mut *out, e, pair.sequence as u64);
-    let g = put_spaced(&mut *out, f, pair.reading);
-    put(&mut *out, g, 10)
+    let a = put(to, &mut *out, at, mark);
+    let b = put(to, &mut *out, a, 32);
+    let d = put_cid(to, &mut *out, b, pair.cid);
+    let e = put_spaced(to, &mut *out, d, pair.universe as u64);
+    let f = put_spaced(to, &mut *out, e, pair.sequence as u64);
+    let g = put_spaced(to, &mut *out, f, pair.reading);
+    put(to, &mut *out, g, 10)
 }
 
-fn put_pairs(out: &mut [u8], at: usize, mark: u8, pairs: &PairRows, n: usize) -> usize
+fn put_pairs(to: Stdout, out: &mut [u8], at: usize, mark: u8, pairs: &PairRows, n: usize) -> usize
     requires { Ready at out.old × (n ≤ most_pairs) × (length pairs.now ≡ most_pairs) }
     ensures { Tells (lines (pair_line mark) (pairs_of n pairs.now)) out.old at out.new result }
 {
@@ -67,42 +68,50 @@ fn put_pairs(out: &mut [u8], at: usize, mark: u8, pairs: &PairRows, n: usize) ->
     while i < n {
         let row = pairs[i];
         let pair = pair_of(row);
-        a = put_pair(&mut *out, a, mark, pair);
+        a = put_pair(to, &mut *out, a, mark, pair);
         i += 1;
     }
     a
 }
 
-fn put_cids(out: &mut [u8], at: usize, sources: &SourceRows, n: usize) -> usize
+fn put_cids(to: Stdout, out: &mut [u8], at: usize, sources: &SourceRows, n: usize) -> usize
     requires { Ready at out.old × (n ≤ most_pairs) × (length sources.now ≡ most_pairs) }
     ensures { Tells (cids_text (listed_sources_of n sources.now)) out.old at out.new result }
 {
     if n == 0 {
-        return put(&mut *out, at, 45);
+        return put(to, &mut *out, at, 45);
     }
     let first = sources[0];
-    let mut a = put_cid(&mut *out, at, cid_of(first));
+    let mut a = put_cid(to, &mut *out, at, cid_of(first));
     let mut i: usize = 1;
     while i < n {
         let row = sources[i];
-        a = put(&mut *out, a, 44);
-        a = put_cid(&mut *out, a, cid_of(row));
+        a = put(to, &mut *out, a, 44);
+        a = put_cid(to, &mut *out, a, cid_of(row));
         i += 1;
     }
     a
 }
 
-fn put_sources_line(out: &mut [u8], at: usize, mark: u8, sources: &SourceRows, n: usize) -> usize
+fn put_sources_line(
+    to: Stdout,
+    out: &mut [u8],
+    at: usize,
+    mark: u8,
+    sources: &SourceRows,
+    n: usize,
+) -> usize
     requires { Ready at out.old × (n ≤ most_pairs) × (length sources.now ≡ most_pairs) }
     ensures { Tells (sources_line mark (listed_sources_of n sources.now)) out.old at out.new result }
 {
-    let a = put(&mut *out, at, mark);
-    let b = put_text(&mut *out, a, b"c ");
-    let d = put_cids(&mut *out, b, sources, n);
-    put(&mut *out, d, 10)
+    let a = put(to, &mut *out, at, mark);
+    let b = put_text(to, &mut *out, a, b"c ");
+    let d = put_cids(to, &mut *out, b, sources, n);
+    put(to, &mut *out, d, 10)
 }
 
 pub fn put_table(
+    to: Stdout,
     out: &mut [u8],
     at: usize,
     mark: u8,
@@ -115,40 +124,41 @@ pub fn put_table(
     ensures { Tells (table_text mark (table_of table pairs.now sources.now)) out.old at
         out.new result }
 {
-    let a = put_pairs(&mut *out, at, mark, pairs, table.count);
-    put_sources_line(&mut *out, a, mark, sources, table.source_count)
+    let a = put_pairs(to, &mut *out, at, mark, pairs, table.count);
+    put_sources_line(to, &mut *out, a, mark, sources, table.source_count)
 }
 
-fn put_owner(out: &mut [u8], at: usize, owner: SourceCid) -> usize
+fn put_owner(to: Stdout, out: &mut [u8], at: usize, owner: SourceCid) -> usize
     requires { Ready at out.old }
     ensures { Tells (owner_text owner) out.old at out.new result }
 {
     match owner {
-        SourceCid::Merged => put(out, at, 45),
-        SourceCid::Of(c) => put_cid(out, at, c),
+        SourceCid::Merged => put(to, out, at, 45),
+        SourceCid::Of(c) => put_cid(to, out, at, c),
     }
 }
 
-fn put_entry(out: &mut [u8], at: usize, d: DmxData, values: &[u8]) -> usize
+fn put_entry(to: Stdout, out: &mut [u8], at: usize, d: DmxData, values: &[u8]) -> usize
     requires { Ready at out.old }
     ensures { Tells (waiting_line (dmx d values.now)) out.old at out.new result }
 {
     let owner = d.src_cid;
-    let a = put(&mut *out, at, 119);
-    let b = put_spaced(&mut *out, a, d.universe as u64);
-    let e = put_spaced(&mut *out, b, d.sync_uni as u64);
-    let f = put_spaced(&mut *out, e, d.priority as u64);
-    let g = put(&mut *out, f, 32);
-    let h = put_bit(&mut *out, g, d.preview);
-    let i = put(&mut *out, h, 32);
-    let j = put_owner(&mut *out, i, owner);
-    let k = put_spaced(&mut *out, j, d.recv_timestamp);
-    let l = put(&mut *out, k, 32);
-    let m = put_byte_string(&mut *out, l, values);
-    put(&mut *out, m, 10)
+    let a = put(to, &mut *out, at, 119);
+    let b = put_spaced(to, &mut *out, a, d.universe as u64);
+    let e = put_spaced(to, &mut *out, b, d.sync_uni as u64);
+    let f = put_spaced(to, &mut *out, e, d.priority as u64);
+    let g = put(to, &mut *out, f, 32);
+    let h = put_bit(to, &mut *out, g, d.preview);
+    let i = put(to, &mut *out, h, 32);
+    let j = put_owner(to, &mut *out, i, owner);
+    let k = put_spaced(to, &mut *out, j, d.recv_timestamp);
+    let l = put(to, &mut *out, k, 32);
+    let m = put_byte_string(to, &mut *out, l, values);
+    put(to, &mut *out, m, 10)
 }
 
 pub fn put_waiting(
+    to: Stdout,
     out: &mut [u8],
     at: usize,
     waiting: Waiting,
@@ -164,7 +174,7 @@ pub fn put_waiting(
     while i < waiting.count {
         let d = waiting.waiting_data(rows, i);
         let values = waiting.waiting_values(rows, store, i);
-        a = put_entry(&mut *out, a, d, values);
+        a = put_entry(to, &mut *out, a, d, values);
         i += 1;
     }
     a
@@ -181,6 +191,7 @@ pub fn front_numbers(list: &[u16], n: usize) -> &[u16]
 }
 
 pub fn put_listened(
+    to: Stdout,
     out: &mut [u8],
     at: usize,
     listened: Listened,
@@ -189,25 +200,26 @@ pub fn put_listened(
     requires { Ready at out.old }
     ensures { Tells (listened_line (listened_of listened heard.now)) out.old at out.new result }
 {
-    let a = put_text(&mut *out, at, b"l ");
-    let b = put_list(&mut *out, a, front_numbers(heard, listened.count));
-    put(&mut *out, b, 10)
+    let a = put_text(to, &mut *out, at, b"l ");
+    let b = put_list(to, &mut *out, a, front_numbers(heard, listened.count));
+    put(to, &mut *out, b, 10)
 }
 
-fn put_page(out: &mut [u8], at: usize, letter: u8, number: u64, list: &[u16]) -> usize
+fn put_page(to: Stdout, out: &mut [u8], at: usize, letter: u8, number: u64, list: &[u16]) -> usize
     requires { Ready at out.old }
     ensures { Tells (page_line letter (page number list.now)) out.old at out.new result }
 {
-    let a = put(&mut *out, at, letter);
-    let b = put(&mut *out, a, 112);
-    let d = put_spaced(&mut *out, b, number);
-    let e = put(&mut *out, d, 32);
-    let f = put_list(&mut *out, e, list);
-    put(&mut *out, f, 10)
+    let a = put(to, &mut *out, at, letter);
+    let b = put(to, &mut *out, a, 112);
+    let d = put_spaced(to, &mut *out, b, number);
+    let e = put(to, &mut *out, d, 32);
+    let f = put_list(to, &mut *out, e, list);
+    put(to, &mut *out, f, 10)
 }
 
 // The k-th page of a source.
 fn put_page_at(
+    to: Stdout,
     out: &mut [u8],
     at: usize,
     letter: u8,
@@ -227,10 +239,11 @@ fn put_page_at(
     let row = pages[r];
     let head = page_head(row);
     let list = page_universes(discovery, pages, universes, r);
-    put_page(out, at, letter, head.number, list)
+    put_page(to, out, at, letter, head.number, list)
 }
 
 fn put_pages(
+    to: Stdout,
     out: &mut [u8],
     at: usize,
     letter: u8,
@@ -250,7 +263,7 @@ fn put_pages(
     let mut k: usize = 0;
     while k < total {
         a = put_page_at(
-            &mut *out, a, letter, mark, cid, k, discovery, pages, universes,
+            to, &mut *out, a, letter, mark, cid, k, discovery, pages, universes,
         );
         k += 1;
     }
@@ -258,6 +271,7 @@ fn put_pages(
 }
 
 fn put_head(
+    to: Stdout,
     out: &mut [u8],
     at: usize,
     letter: u8,
@@ -269,20 +283,21 @@ fn put_head(
     ensures { Tells (head_line letter head.cid (take head.name_length name_row) head.last_page
         head.reading total) out.old at out.new result }
 {
-    let a = put(&mut *out, at, letter);
-    let b = put(&mut *out, a, 32);
-    let d = put_cid(&mut *out, b, head.cid);
-    let e = put(&mut *out, d, 32);
+    let a = put(to, &mut *out, at, letter);
+    let b = put(to, &mut *out, a, 32);
+    let d = put_cid(to, &mut *out, b, head.cid);
+    let e = put(to, &mut *out, d, 32);
     let name = front(&name_row, head.name_length as usize);
-    let f = put_byte_string(&mut *out, e, name);
-    let g = put_spaced(&mut *out, f, head.last_page);
-    let h = put_spaced(&mut *out, g, head.reading);
-    let i = put_spaced(&mut *out, h, total as u64);
-    put(&mut *out, i, 10)
+    let f = put_byte_string(to, &mut *out, e, name);
+    let g = put_spaced(to, &mut *out, f, head.last_page);
+    let h = put_spaced(to, &mut *out, g, head.reading);
+    let i = put_spaced(to, &mut *out, h, total as u64);
+    put(to, &mut *out, i, 10)
 }
 
 // The k-th source of a mark, with its pages.
 fn put_source_at(
+    to: Stdout,
     out: &mut [u8],
     at: usize,
     letter: u8,
@@ -306,13 +321,14 @@ fn put_source_at(
     let name_row = names[r];
     let cid = head.cid;
     let total = page_total(discovery, pages, mark, cid);
-    let a = put_head(&mut *out, at, letter, head, name_row, total);
+    let a = put_head(to, &mut *out, at, letter, head, name_row, total);
     put_pages(
-        &mut *out, a, letter, mark, cid, total, discovery, pages, universes,
+        to, &mut *out, a, letter, mark, cid, total, discovery, pages, universes,
     )
 }
 
 fn put_sources(
+    to: Stdout,
     out: &mut [u8],
     at: usize,
     letter: u8,
@@ -334,7 +350,7 @@ fn put_sources(
     let mut k: usize = 0;
     while k < count {
         a = put_source_at(
-            &mut *out, a, letter, mark, k, discovery, sources, names, pages, universes,
+            to, &mut *out, a, letter, mark, k, discovery, sources, names, pages, universes,
         );
         k += 1;
     }
@@ -343,6 +359,7 @@ fn put_sources(
 
 // Partial sources, then listed ones.
 fn put_discovered(
+    to: Stdout,
     out: &mut [u8],
     at: usize,
     discovery: Discovery,
@@ -357,15 +374,16 @@ fn put_discovered(
 {
     let partial = partial_count(discovery, sources);
     let a = put_sources(
-        &mut *out, at, 112, 0, partial, discovery, sources, names, pages, universes,
+        to, &mut *out, at, 112, 0, partial, discovery, sources, names, pages, universes,
     );
     let listed = listed_count(discovery, sources);
     put_sources(
-        &mut *out, a, 113, 1, listed, discovery, sources, names, pages, universes,
+        to, &mut *out, a, 113, 1, listed, discovery, sources, names, pages, universes,
     )
 }
 
 pub fn dump(
+    to: Stdout,
     out: &mut [u8],
     at: usize,
     receiver: Receiver,
@@ -382,19 +400,20 @@ pub fn dump(
     universes: &[u16],
 ) -> usize
     requires { Ready at out.old × Kept receiver
-        (lent_in data_pairs data_sources sync_pairs sync_sources rows store heard sources names pages universes) ×
+        (shared_lent_in data_pairs data_sources sync_pairs sync_sources rows store heard sources names pages universes) ×
         (store_length ≤ length store.now) × (pool_length ≤ length universes.now) }
-    ensures { let m = lent data_pairs data_sources sync_pairs sync_sources rows store heard sources names pages universes in
+    ensures { let m = shared_lent data_pairs data_sources sync_pairs sync_sources rows store heard sources names pages universes in
         Tells (dump_text (state_of receiver m.entry)) out.old at out.new result }
 {
     let q = receiver.sequences;
     let data = q.data;
     let sync = q.sync;
-    let a = put_table(&mut *out, at, 100, data.table, data_pairs, data_sources);
-    let b = put_table(&mut *out, a, 121, sync.table, sync_pairs, sync_sources);
-    let d = put_waiting(&mut *out, b, receiver.waiting, rows, store);
-    let e = put_listened(&mut *out, d, receiver.listened, heard);
+    let a = put_table(to, &mut *out, at, 100, data.table, data_pairs, data_sources);
+    let b = put_table(to, &mut *out, a, 121, sync.table, sync_pairs, sync_sources);
+    let d = put_waiting(to, &mut *out, b, receiver.waiting, rows, store);
+    let e = put_listened(to, &mut *out, d, receiver.listened, heard);
     let f = put_discovered(
+        to,
         &mut *out,
         e,
         receiver.discovery,
@@ -403,5 +422,5 @@ pub fn dump(
         pages,
         universes,
     );
-    put_text(&mut *out, f, b".\n")
+    put_text(to, &mut *out, f, b".\n")
 }

@@ -1,4 +1,7 @@
 // Reads a replay script on standard input, carries each line out on a receiver and prints the answer.
+
+#![tactic(auto)]
+
 mod calls;
 mod dump;
 mod run;
@@ -12,7 +15,7 @@ use receiver::Receiver;
 use settings::Settings;
 use waiting::{RELEASE_LENGTH, STORE_LENGTH, WAITING};
 
-fn main() {
+fn main(rt: HostRuntime) {
     let mut data_pairs = [[0u64; 4]; PAIRS];
     let mut data_sources = [[0u64; 2]; PAIRS];
     let mut sync_pairs = [[0u64; 4]; PAIRS];
@@ -50,11 +53,14 @@ fn main() {
         &mut names,
         &mut pages,
         &mut universes,
+        rt.stdin(),
         &mut chunk,
         &mut text,
         &mut bytes,
         &mut list,
         &mut released,
+        rt.stdout(),
         &mut out,
+        rt.stderr(),
     );
 }

@@ -1,6 +1,7 @@
 // The script line by line.
 ghost use Rattle.std.specs.Prelude.{◌≡◌, length};
 ghost use Rattle.receiver.specs.Promises.{lent, lent_in};
+ghost use Rattle.replay.specs.Promises.{shared_lent, shared_lent_in};
 ghost use Rattle.receiver.specs.View.{Memory, memory, state_of};
 ghost use Rattle.script.specs.Lines.{silent};
 ghost use Rattle.printing.specs.Text.{Ready};
@@ -12,25 +13,25 @@ use crate::calls::{
 };
 use crate::dump::dump;
 use discovery_rows::{HeadRows, NameRows, PageRows};
-use libc::STDERR_FILENO;
 use listening::ListenedUniverses;
 use pair_rows::{PairRows, SourceRows};
 use printing::print::{flush, has_failed, put_text};
 use script::lines::{Input, is_longer, next_line, without_return};
 use script::parse::{Command, Setting, parse_line};
+use std::io::{Stderr, Stdin, Stdout};
 use waiting_store::EntryRows;
 
 // The most bytes of a line, its end not counted.
 const MOST_LINE: usize = 8192;
 
-fn refuse(session: Session, out: &mut [u8]) -> Session
+fn refuse(session: Session, to: Stdout, out: &mut [u8]) -> Session
     requires { Ready session.at out.old }
     ensures { (m : Memory) → Carries session m out.old
         (refused session.settings (state_of session.receiver m)) result m out.new }
 {
     let receiver = session.receiver;
     let settings = session.settings;
-    let at = put_text(out, session.at, b"error\n");
+    let at = put_text(to, out, session.at, b"error\n");
     Session {
         receiver: receiver,
         settings: settings,
@@ -38,25 +39,30 @@ fn refuse(session: Session, out: &mut [u8]) -> Session
     }
 }
 
-fn adjust(session: Session, setting: Setting, out: &mut [u8]) -> Session
+fn adjust(session: Session, setting: Setting, to: Stdout, out: &mut [u8]) -> Session
     requires { Ready session.at out.old }
     ensures { (m : Memory) → Carries session m out.old
         (adjusted setting session.settings (state_of session.receiver m)) result m out.new }
 {
     let s = session.settings;
     match setting {
-        Setting::Preview(on) => set(session, s.set_process_preview_data(on), out),
-        Setting::AnnounceDiscovery(on) => set(session, s.set_announce_source_discovery(on), out),
+        Setting::Preview(on) => set(session, s.set_process_preview_data(on), to, out),
+        Setting::AnnounceDiscovery(on) => set(
+            session,
+            s.set_announce_source_discovery(on),
+            to,
+            out,
+        ),
         Setting::AnnounceTermination(on) => {
-            set(session, s.set_announce_stream_termination(on), out)
+            set(session, s.set_announce_stream_termination(on), to, out)
         }
-        Setting::AnnounceTimeout(on) => set(session, s.set_announce_timeout(on), out),
-        Setting::Merge(choice) => set(session, s.set_merge(choice), out),
-        Setting::NoLimit => set(session, s.clear_source_limit(), out),
-        Setting::Limit(n) => set_answered(session, s.set_source_limit(n), out),
-        Setting::Expiry(n) => set_answered(session, s.set_discovery_expiry(n), out),
-        Setting::RawLimit(n) => set(session, with_raw_limit(s, n), out),
-        Setting::RawExpiry(n) => set(session, with_raw_expiry(s, n), out),
+        Setting::AnnounceTimeout(on) => set(session, s.set_announce_timeout(on), to, out),
+        Setting::Merge(choice) => set(session, s.set_merge(choice), to, out),
+        Setting::NoLimit => set(session, s.clear_source_limit(), to, out),
+        Setting::Limit(n) => set_answered(session, s.set_source_limit(n), to, out),
+        Setting::Expiry(n) => set_answered(session, s.set_discovery_expiry(n), to, out),
+        Setting::RawLimit(n) => set(session, with_raw_limit(s, n), to, out),
+        Setting::RawExpiry(n) => set(session, with_raw_expiry(s, n), to, out),
     }
 }
 
@@ -73,17 +79,19 @@ fn show(
     names: &NameRows,
     pages: &PageRows,
     universes: &[u16],
+    to: Stdout,
     out: &mut [u8],
 ) -> Session
-    requires { Fit session.receiver (lent_in data_pairs data_sources sync_pairs sync_sources rows store heard sources
+    requires { Fit session.receiver (shared_lent_in data_pairs data_sources sync_pairs sync_sources rows store heard sources
         names pages universes) × Ready session.at out.old }
-    ensures { let m = lent data_pairs data_sources sync_pairs sync_sources rows store heard sources names pages universes in
+    ensures { let m = shared_lent data_pairs data_sources sync_pairs sync_sources rows store heard sources names pages universes in
         Carries session m.entry out.old (dumped session.settings (state_of session.receiver m.entry)) result
         m.entry out.new }
 {
     let receiver = session.receiver;
     let settings = session.settings;
     let at = dump(
+        to,
         out,
         session.at,
         receiver,
@@ -123,6 +131,7 @@ fn execute(
     bytes: &[u8],
     list: &[u16],
     released: &mut [u8],
+    to: Stdout,
     out: &mut [u8],
 ) -> Session
     requires { Fit session.receiver (lent_in data_pairs data_sources sync_pairs sync_sources rows store heard sources
@@ -149,6 +158,7 @@ fn execute(
             line,
             bytes,
             released,
+            to,
             out,
         ),
         Command::Sync(line) => step_sync(
@@ -166,6 +176,7 @@ fn execute(
             &*universes,
             line,
             released,
+            to,
             out,
         ),
         Command::Discovery(line) => step_discovery(
@@ -185,6 +196,7 @@ fn execute(
             bytes,
             list,
             &*released,
+            to,
             out,
         ),
         Command::Dump => show(
@@ -200,6 +212,7 @@ fn execute(
             &*names,
             &*pages,
             &*universes,
+            to,
             out,
         ),
         Command::Poll(now) => poll(
@@ -211,19 +224,20 @@ fn execute(
             rows,
             store,
             now,
+            to,
             out,
         ),
-        Command::Sweep(now) => sweep(session, sources, names, pages, universes, now, out),
-        Command::Clear(universe) => clear(session, rows, store, universe, out),
-        Command::Listen(n) => listen(session, heard, list, n, out),
-        Command::Mute(universe) => mute(session, heard, universe, out),
-        Command::Listening(universe) => ask(session, &*heard, universe, out),
-        Command::Fresh => begin(session, heard, out),
-        Command::Set(setting) => adjust(session, setting, out),
-        Command::Settings(line) => carry_settings(session, line, bytes, out),
-        Command::ClearAll => clear_all(session, out),
-        Command::Reset(what) => reset(session, what, out),
-        Command::Error => refuse(session, out),
+        Command::Sweep(now) => sweep(session, sources, names, pages, universes, now, to, out),
+        Command::Clear(universe) => clear(session, rows, store, universe, to, out),
+        Command::Listen(n) => listen(session, heard, list, n, to, out),
+        Command::Mute(universe) => mute(session, heard, universe, to, out),
+        Command::Listening(universe) => ask(session, &*heard, universe, to, out),
+        Command::Fresh => begin(session, heard, to, out),
+        Command::Set(setting) => adjust(session, setting, to, out),
+        Command::Settings(line) => carry_settings(session, line, bytes, to, out),
+        Command::ClearAll => clear_all(session, to, out),
+        Command::Reset(what) => reset(session, what, to, out),
+        Command::Error => refuse(session, to, out),
     }
 }
 
@@ -256,6 +270,7 @@ fn carry_line(
     bytes: &mut [u8],
     list: &mut [u16],
     released: &mut [u8],
+    to: Stdout,
     out: &mut [u8],
 ) -> Session
     requires { Fit session.receiver (lent_in data_pairs data_sources sync_pairs sync_sources rows store heard sources
@@ -269,7 +284,7 @@ fn carry_line(
         return session;
     }
     if long {
-        return refuse(session, out);
+        return refuse(session, to, out);
     }
     let command = parse_line(line, &mut *bytes, &mut *list);
     execute(
@@ -289,6 +304,7 @@ fn carry_line(
         &*bytes,
         &*list,
         released,
+        to,
         out,
     )
 }
@@ -315,11 +331,13 @@ fn take_line(
     names: &mut NameRows,
     pages: &mut PageRows,
     universes: &mut [u16],
+    from: Stdin,
     chunk: &mut [u8],
     text: &mut [u8],
     bytes: &mut [u8],
     list: &mut [u16],
     released: &mut [u8],
+    to: Stdout,
     out: &mut [u8],
 ) -> Turn
     requires { Runs session input (lent_in data_pairs data_sources sync_pairs sync_sources rows store heard sources
@@ -327,7 +345,7 @@ fn take_line(
     ensures { let m = lent data_pairs data_sources sync_pairs sync_sources rows store heard sources names pages universes in
         Runs result.session result.input m.exit chunk.new out.new }
 {
-    let line = next_line(input, &mut *chunk, &mut *text);
+    let line = next_line(from, input, &mut *chunk, &mut *text);
     let next = line.input;
     if line.ended {
         return Turn {
@@ -356,6 +374,7 @@ fn take_line(
         bytes,
         list,
         released,
+        to,
         out,
     );
     Turn {
@@ -374,15 +393,12 @@ fn is_lost(before: bool, written: bool) -> bool {
 }
 
 // What could not be read or written is said on standard error.
-fn report(unread: bool, unwritten: bool) {
+fn report(errors: Stderr, unread: bool, unwritten: bool) {
     if unread {
-        io::write_all(STDERR_FILENO, b"replay: standard input could not be read\n");
+        let _ = errors.write_all(b"replay: standard input could not be read\n");
     }
     if unwritten {
-        io::write_all(
-            STDERR_FILENO,
-            b"replay: standard output could not be written\n",
-        );
+        let _ = errors.write_all(b"replay: standard output could not be written\n");
     }
 }
 
@@ -400,12 +416,15 @@ pub fn run(
     names: &mut NameRows,
     pages: &mut PageRows,
     universes: &mut [u16],
+    from: Stdin,
     chunk: &mut [u8],
     text: &mut [u8],
     bytes: &mut [u8],
     list: &mut [u16],
     released: &mut [u8],
+    to: Stdout,
     out: &mut [u8],
+    errors: Stderr,
 )
     requires { Fit session.receiver (lent_in data_pairs data_sources sync_pairs sync_sources rows store heard sources
         names pages universes) × Ready session.at out.old }
@@ -434,11 +453,13 @@ pub fn run(
             &mut *names,
             &mut *pages,
             &mut *universes,
+            from,
             &mut *chunk,
             &mut *text,
             &mut *bytes,
             &mut *list,
             &mut *released,
+            to,
             &mut *out,
         );
         if t.ended {
@@ -450,7 +471,8 @@ pub fn run(
     let last = t.session;
     let input = t.input;
     report(
+        errors,
         input.failed,
-        is_lost(has_failed(&*out), flush(&*out, last.at)),
+        is_lost(has_failed(&*out), flush(to, &*out, last.at)),
     );
 }
