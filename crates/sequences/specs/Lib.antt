@@ -1,4 +1,3 @@
 pub mod Sequences
 pub mod View
 pub mod Promises
-pub mod Laws

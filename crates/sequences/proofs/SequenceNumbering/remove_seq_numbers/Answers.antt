@@ -2,7 +2,7 @@
 -- Assumes nothing.
 use Rattle.pairs.specs.Table.{key}
 use Rattle.sequences.specs.View.{lent}
-use Rattle.sequences.specs.Laws.{removes_both, removes_none}
+use Rattle.sequences.proofs.Laws.{removes_both, removes_none}
 use Rattle.sequences.proofs.SequenceNumbering.remove_seq_numbers.Goals as goal
 
 pub returns-then-a-clause-view : goal.returns-then-a-clause-view
