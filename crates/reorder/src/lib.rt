@@ -1,3 +1,3 @@
 #![tactic(auto)]
 
-// No functions: demand 3 over the definitions of the crate model stands in specs/.
+// No functions: demand 3 over the definitions of the crate model stands in proofs/.
