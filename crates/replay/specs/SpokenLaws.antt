@@ -13,14 +13,14 @@ use Rattle.model.specs.Calls.{listen_call}
 use Rattle.model.specs.Answer.{listen_number, listen_values}
 use Rattle.receiver.specs.View.{Memory, space_in}
 use Rattle.packets.specs.View.{announcement_of}
-use Rattle.script.specs.declared.fields.Number.{Number}
-use Rattle.script.specs.declared.fields.Number.TheVariants as number
-use Rattle.script.specs.declared.fields.Small.{Small}
-use Rattle.script.specs.declared.fields.Small.TheVariants as small
-use Rattle.script.specs.declared.fields.Octet.{Octet}
-use Rattle.script.specs.declared.fields.Octet.TheVariants as octet
-use Rattle.script.specs.declared.fields.Flag.{Flag}
-use Rattle.script.specs.declared.fields.Flag.TheVariants as flag
+use Rattle.script.specs.declared.line_fields.Number.{Number}
+use Rattle.script.specs.declared.line_fields.Number.TheVariants as number
+use Rattle.script.specs.declared.line_fields.Small.{Small}
+use Rattle.script.specs.declared.line_fields.Small.TheVariants as small
+use Rattle.script.specs.declared.line_fields.Octet.{Octet}
+use Rattle.script.specs.declared.line_fields.Octet.TheVariants as octet
+use Rattle.script.specs.declared.line_fields.Flag.{Flag}
+use Rattle.script.specs.declared.line_fields.Flag.TheVariants as flag
 use Rattle.script.specs.declared.parse.Stamp.{Stamp}
 use Rattle.script.specs.declared.parse.Stamped.{Stamped}
 use Rattle.script.specs.declared.parse.Stamped.TheVariants as stamped

@@ -10,13 +10,13 @@ use Rattle.std.proofs.Math.ListN.{length, drop_of_length-le}
 use borrow.Author.Tests.{leb-true, ltb-true, ltb-false, lt-ltb, le-ltb, eq-eqb, ne_eqb}
 use Rattle.laws.specs.Cases.{split as by_test, clash}
 use Rattle.laws.specs.Place.{prefix, prefix_le}
-use Rattle.script.specs.declared.fields.Number.{Number}
-use Rattle.script.specs.declared.fields.Number.TheVariants as number
-use Rattle.script.specs.declared.fields.Count.TheVariants as count
+use Rattle.script.specs.declared.line_fields.Number.{Number}
+use Rattle.script.specs.declared.line_fields.Number.TheVariants as number
+use Rattle.script.specs.declared.line_fields.Count.TheVariants as count
 use Rattle.rules.specs.Cid.{cid_of}
-use Rattle.script.specs.declared.fields.Source.TheVariants as source
-use Rattle.script.specs.declared.fields.Small.{Small}
-use Rattle.script.specs.declared.fields.Small.TheVariants as small
+use Rattle.script.specs.declared.line_fields.Source.TheVariants as source
+use Rattle.script.specs.declared.line_fields.Small.{Small}
+use Rattle.script.specs.declared.line_fields.Small.TheVariants as small
 use Rattle.script.specs.Fields.{eql, ending, Ends, digit, within, with_digit, onward, spelt, number_of, lowered, two_digits, added, paired, hex_of, onto, split, listed, numbers, fitting, small_of, byte_string_of, to_source, Decoded}
 
 -- the next byte

@@ -4,18 +4,18 @@ use Rattle.std.specs.Prelude.{◌≡◌, Bool, true, false, cond, not, ◌&&◌,
 use Rattle.std.proofs.Math.Option.{Option, none, some}
 use Rattle.laws.specs.Place.{prefix}
 use Rattle.rules.specs.Cid.{cid_of}
-use Rattle.script.specs.declared.fields.Number.{Number}
-use Rattle.script.specs.declared.fields.Number.TheVariants as number
-use Rattle.script.specs.declared.fields.Small.{Small}
-use Rattle.script.specs.declared.fields.Small.TheVariants as small
-use Rattle.script.specs.declared.fields.Octet.{Octet}
-use Rattle.script.specs.declared.fields.Octet.TheVariants as octet
-use Rattle.script.specs.declared.fields.Flag.{Flag}
-use Rattle.script.specs.declared.fields.Flag.TheVariants as flag
-use Rattle.script.specs.declared.fields.Source.{Source}
-use Rattle.script.specs.declared.fields.Source.TheVariants as source
-use Rattle.script.specs.declared.fields.Count.{Count}
-use Rattle.script.specs.declared.fields.Count.TheVariants as count
+use Rattle.script.specs.declared.line_fields.Number.{Number}
+use Rattle.script.specs.declared.line_fields.Number.TheVariants as number
+use Rattle.script.specs.declared.line_fields.Small.{Small}
+use Rattle.script.specs.declared.line_fields.Small.TheVariants as small
+use Rattle.script.specs.declared.line_fields.Octet.{Octet}
+use Rattle.script.specs.declared.line_fields.Octet.TheVariants as octet
+use Rattle.script.specs.declared.line_fields.Flag.{Flag}
+use Rattle.script.specs.declared.line_fields.Flag.TheVariants as flag
+use Rattle.script.specs.declared.line_fields.Source.{Source}
+use Rattle.script.specs.declared.line_fields.Source.TheVariants as source
+use Rattle.script.specs.declared.line_fields.Count.{Count}
+use Rattle.script.specs.declared.line_fields.Count.TheVariants as count
 
 -- the same bytes
 unfoldable pub eql : List ℕ → List ℕ → Bool

@@ -7,16 +7,16 @@ use Rattle.settings.specs.declared.MergeChoice.TheVariants.{DiscardLowestPriorit
 use Rattle.settings_store.specs.declared.Layouts.{Layouts}
 use Rattle.settings_store.specs.declared.Layouts.TheVariants as layouts
 use Rattle.packets.specs.declared.DataPacket.{DataPacket}
-use Rattle.script.specs.declared.fields.Number.{Number}
-use Rattle.script.specs.declared.fields.Number.TheVariants as number
-use Rattle.script.specs.declared.fields.Small.{Small}
-use Rattle.script.specs.declared.fields.Small.TheVariants as small
-use Rattle.script.specs.declared.fields.Octet.{Octet}
-use Rattle.script.specs.declared.fields.Octet.TheVariants as octet
-use Rattle.script.specs.declared.fields.Flag.{Flag}
-use Rattle.script.specs.declared.fields.Flag.TheVariants as flag
-use Rattle.script.specs.declared.fields.Source.{Source}
-use Rattle.script.specs.declared.fields.Source.TheVariants as source
+use Rattle.script.specs.declared.line_fields.Number.{Number}
+use Rattle.script.specs.declared.line_fields.Number.TheVariants as number
+use Rattle.script.specs.declared.line_fields.Small.{Small}
+use Rattle.script.specs.declared.line_fields.Small.TheVariants as small
+use Rattle.script.specs.declared.line_fields.Octet.{Octet}
+use Rattle.script.specs.declared.line_fields.Octet.TheVariants as octet
+use Rattle.script.specs.declared.line_fields.Flag.{Flag}
+use Rattle.script.specs.declared.line_fields.Flag.TheVariants as flag
+use Rattle.script.specs.declared.line_fields.Source.{Source}
+use Rattle.script.specs.declared.line_fields.Source.TheVariants as source
 use Rattle.script.specs.declared.parse.Stamp.{Stamp}
 use Rattle.script.specs.declared.parse.Stamped.{Stamped}
 use Rattle.script.specs.declared.parse.Stamped.TheVariants as stamped

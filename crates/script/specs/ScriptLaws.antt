@@ -3,7 +3,7 @@
 use Rattle.std.specs.Prelude.{◌≡◌, refl, Bool, cond, List, ℕ, suc, ◌+◌, ◌-◌, ◌≤◌, ◌<◌, length, take, drop}
 use Rattle.std.proofs.Common.{sym, ap, subst, ◌∙◌, arith, add-one, drop_of_length-le, lt-ltb, le-ltb}
 use Rattle.std.proofs.Math.Option.{Option, none, some}
-use Rattle.script.specs.declared.fields.Count.TheVariants as count
+use Rattle.script.specs.declared.line_fields.Count.TheVariants as count
 use Rattle.laws.specs.Ascii.{ascii}
 use Rattle.settings_store.specs.declared.Layouts.TheVariants as layouts
 use Rattle.script.specs.Fields.{eql, ending, Ends, Decoded}

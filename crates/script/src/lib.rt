@@ -3,6 +3,6 @@
 
 #![tactic(auto)]
 
-pub mod fields;
+pub mod line_fields;
 pub mod lines;
 pub mod parse;

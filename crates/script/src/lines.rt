@@ -2,7 +2,7 @@
 ghost use Rattle.std.specs.Prelude.{◌≡◌, ◌||◌, ◌≤◌, ltb, length, take};
 ghost use Rattle.script.specs.Lines.{Unread, Appended, Pieced, unreturned};
 
-use crate::fields::field_end;
+use crate::line_fields::field_end;
 use std::io::{Read, Stdin};
 
 // The bytes of the chunk that are still to be read, and whether reading has failed.

@@ -2,7 +2,7 @@
 ghost use Rattle.std.specs.Prelude.{◌≡◌, List, ℕ, length};
 ghost use Rattle.script.specs.Script.{first_of, rest_of, past_five, lone_of, record_word, setting_word, call_word, word_of, setting_of, universe_of, reading_of, merge_of, limit_of, expiry_of, raw_limit_of, raw_expiry_of, store_of, layouts_of, load_of, record_of, stamp_of, numbers_of, data_packet, data_of, sync_of, discovery_of, listen_of, fields_of, line_of, Reads};
 
-use crate::fields::{
+use crate::line_fields::{
     Count, Flag, Number, Octet, Small, Source, field_end, is_same, parse_byte_string, parse_flag,
     parse_list, parse_number, parse_octet, parse_options, parse_small, parse_source,
 };

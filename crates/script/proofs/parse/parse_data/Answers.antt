@@ -7,7 +7,7 @@ use Rattle.script.specs.ScriptLaws.{whole, data_said, decoded_found, decoded_non
 use lib.ListN.{length}
 use mathlib.Core.Option.{Option}
 use Rattle.script.specs.Fields.{Decoded, byte_string_of}
-use Rattle.script.specs.declared.fields.Count.{Count}
+use Rattle.script.specs.declared.line_fields.Count.{Count}
 use Rattle.script.specs.declared.parse.Stamped.{Stamped}
 use Rattle.script.specs.declared.parse.Numbered.{Numbered}
 use Rattle.script.specs.Script.{rest_of, past_five, stamp_of, numbers_of, data_of, data_stamp, data_numbers, data_values}

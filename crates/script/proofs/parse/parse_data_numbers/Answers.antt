@@ -4,8 +4,8 @@ use mathlib.Core.Path.{refl, sym, ap, ◌∙◌}
 use mathlib.Core.List.{List}
 use Prim.Native.Nat.{ℕ}
 use Rattle.script.specs.ScriptLaws.{field}
-use Rattle.script.specs.declared.fields.Small.{Small}
-use Rattle.script.specs.declared.fields.Octet.{Octet}
+use Rattle.script.specs.declared.line_fields.Small.{Small}
+use Rattle.script.specs.declared.line_fields.Octet.{Octet}
 use Rattle.script.specs.Fields.{small_of, octet_of, options_of}
 use Rattle.script.specs.Script.{rest_of, numbers_of, with_universe, with_address, with_priority, with_sequence, with_options}
 use Rattle.script.proofs.parse.parse_data_numbers.Goals as goal

@@ -7,9 +7,9 @@ use Rattle.script.specs.ScriptLaws.{field, whole, page_said, decoded_found, deco
 use lib.ListN.{length}
 use mathlib.Core.Option.{Option}
 use Rattle.script.specs.Fields.{Decoded, octet_of, byte_string_of, list_of}
-use Rattle.script.specs.declared.fields.Count.{Count}
+use Rattle.script.specs.declared.line_fields.Count.{Count}
 use Rattle.script.specs.declared.parse.Stamped.{Stamped}
-use Rattle.script.specs.declared.fields.Octet.{Octet}
+use Rattle.script.specs.declared.line_fields.Octet.{Octet}
 use Rattle.script.specs.Script.{first_of, rest_of, stamp_of, discovery_of, page_stamp, page_number, page_last, page_name, page_universes}
 use Rattle.script.proofs.parse.parse_discovery.Goals as goal
 

@@ -2,8 +2,8 @@
 -- Assumes nothing.
 use mathlib.Core.Path.{refl, sym, ap, ◌∙◌}
 use Rattle.script.specs.ScriptLaws.{field}
-use Rattle.script.specs.declared.fields.Number.{Number}
-use Rattle.script.specs.declared.fields.Source.{Source}
+use Rattle.script.specs.declared.line_fields.Number.{Number}
+use Rattle.script.specs.declared.line_fields.Source.{Source}
 use Rattle.script.specs.Fields.{number_of, source_of}
 use Rattle.script.specs.Script.{most, rest_of, stamp_of, stamp_now, stamp_cid}
 use Rattle.script.proofs.parse.parse_stamp.Goals as goal

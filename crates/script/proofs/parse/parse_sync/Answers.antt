@@ -2,8 +2,8 @@
 -- Assumes nothing.
 use mathlib.Core.Path.{refl, sym, ap, ◌∙◌}
 use Rattle.script.specs.ScriptLaws.{field, whole}
-use Rattle.script.specs.declared.fields.Small.{Small}
-use Rattle.script.specs.declared.fields.Octet.{Octet}
+use Rattle.script.specs.declared.line_fields.Small.{Small}
+use Rattle.script.specs.declared.line_fields.Octet.{Octet}
 use Rattle.script.specs.declared.parse.Stamped.{Stamped}
 use Rattle.script.specs.Fields.{small_of, octet_of}
 use Rattle.script.specs.Script.{rest_of, stamp_of, sync_of, sync_stamp, sync_address, sync_sequence}

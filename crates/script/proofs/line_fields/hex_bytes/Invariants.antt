@@ -6,7 +6,7 @@ use mathlib.Core.Option.{some}
 use Prim.Native.Nat.{◌≤◌, ◌-◌, ◌*◌}
 use lib.ListN.{length, take, drop}
 use Rattle.script.specs.Fields.{paired}
-use Rattle.script.proofs.fields.hex_bytes.Given as goal
+use Rattle.script.proofs.line_fields.hex_bytes.Given as goal
 
 abbrev pub invariant-loop-i : goal.invariant-loop-i
 invariant-loop-i l = (l.i ≤ length l.field) × (l.i ≡ l.n * 2) × (length l.out ≡ length l.initial.out) × (paired l.capitals (some (take l.n l.out)) (drop l.i l.field) ≡ paired l.capitals (some []) l.field)

@@ -1,7 +1,7 @@
 -- Each return decides the tests of the definition.
 -- Assumes nothing.
 use mathlib.Core.Path.{sym, ◌∙◌}
-use Rattle.script.proofs.fields.parse_flag.Goals as goal
+use Rattle.script.proofs.line_fields.parse_flag.Goals as goal
 
 pub returns-then-is_same : goal.returns-then-is_same
 returns-then-is_same c = rw (sym c.is_same.ensures ∙ c.if-is_same.true)

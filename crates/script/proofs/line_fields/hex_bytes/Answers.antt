@@ -6,10 +6,10 @@ use mathlib.Core.Option.{some}
 use Prim.Native.Nat.{ℕ, ◌+◌}
 use native.Mathlib.Omega.{arith}
 use lib.ListN.{length, take, drop, get_or, length-set}
-use Rattle.script.specs.declared.fields.Octet.{Octet}
+use Rattle.script.specs.declared.line_fields.Octet.{Octet}
 use Rattle.script.specs.Fields.{paired, added, hex_of, two_digits, lowered}
 use Rattle.script.specs.FieldLaws.{paired_none, paired_next, paired_odd, paired_ends, hex_room, decoded_front, decoded_bad, front_more}
-use Rattle.script.proofs.fields.hex_bytes.Goals as goal
+use Rattle.script.proofs.line_fields.hex_bytes.Goals as goal
 
 pub returns-in_default : goal.returns-in_default
 returns-in_default c =

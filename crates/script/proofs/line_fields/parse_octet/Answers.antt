@@ -4,10 +4,10 @@ use mathlib.Core.Path.{sym, subst, ◌∙◌}
 use Prim.Native.Nat.{◌≤◌}
 use native.Mathlib.Omega.{arith}
 use Rattle.script.specs.FieldLaws.{Within, number_limit}
-use Rattle.script.proofs.fields.parse_small.Goals as goal
+use Rattle.script.proofs.line_fields.parse_octet.Goals as goal
 
 pub overflow_cast-result : goal.overflow_cast-result
 overflow_cast-result c =
     let p = c.parse_number in
-    let h : c.in-Of.n ≤ 65535 = subst (Within 65535) (sym p.ensures ∙ c.in-Of.is) (number_limit 65535 c.args.field.now) in
+    let h : c.in-Of.n ≤ 255 = subst (Within 255) (sym p.ensures ∙ c.in-Of.is) (number_limit 255 c.args.field.now) in
     omega arith

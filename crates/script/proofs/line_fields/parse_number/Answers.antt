@@ -4,11 +4,11 @@ use mathlib.Core.Path.{sym, ap, ◌∙◌}
 use Prim.Native.Nat.{◌+◌}
 use native.Mathlib.Omega.{arith}
 use lib.ListN.{drop}
-use Rattle.script.specs.declared.fields.Number.{Number}
-use Rattle.script.specs.declared.fields.Number.TheVariants as answer
+use Rattle.script.specs.declared.line_fields.Number.{Number}
+use Rattle.script.specs.declared.line_fields.Number.TheVariants as answer
 use Rattle.script.specs.Fields.{spelt}
 use Rattle.script.specs.FieldLaws.{spelt_bad, spelt_next, spelt_ends}
-use Rattle.script.proofs.fields.parse_number.Goals as goal
+use Rattle.script.proofs.line_fields.parse_number.Goals as goal
 
 pub returns-in_default : goal.returns-in_default
 returns-in_default c =

@@ -4,7 +4,7 @@ use mathlib.Core.Path.{◌≡◌}
 use Prim.Native.Nat.{◌≤◌, ◌-◌}
 use lib.ListN.{length}
 use Rattle.script.specs.FieldLaws.{Turn}
-use Rattle.script.proofs.fields.parse_list.Given as goal
+use Rattle.script.proofs.line_fields.parse_list.Given as goal
 
 abbrev pub invariant-loop-n : goal.invariant-loop-n
 invariant-loop-n l = (l.n ≤ length l.out) × (length l.out ≡ length l.initial.out) × Turn l.field l.out l.at l.n

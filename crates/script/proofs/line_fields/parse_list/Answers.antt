@@ -6,7 +6,7 @@ use native.Mathlib.Omega.{arith}
 use lib.ListN.{length, set, length-set, length-drop}
 use Rattle.script.specs.Fields.{list_of}
 use Rattle.script.specs.FieldLaws.{turn_bad, turn_last, turn_more, turn_full, read_at, last_at, more_at, ends_rest, decoded_bad, decoded_front}
-use Rattle.script.proofs.fields.parse_list.Goals as goal
+use Rattle.script.proofs.line_fields.parse_list.Goals as goal
 
 pub returns-in_default : goal.returns-in_default
 returns-in_default c =

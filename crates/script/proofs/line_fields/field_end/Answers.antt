@@ -3,7 +3,7 @@
 use mathlib.Core.Path.{sym, ◌∙◌}
 use native.Mathlib.Omega.{arith}
 use Rattle.script.specs.FieldLaws.{ending_stops, ending_goes, ending_ends, ends}
-use Rattle.script.proofs.fields.field_end.Goals as goal
+use Rattle.script.proofs.line_fields.field_end.Goals as goal
 
 pub returns-then-text-i : goal.returns-then-text-i
 returns-then-text-i c =

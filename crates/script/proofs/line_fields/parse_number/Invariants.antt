@@ -3,9 +3,9 @@
 use mathlib.Core.Path.{◌≡◌}
 use Prim.Native.Nat.{◌≤◌, ◌-◌}
 use lib.ListN.{length, drop}
-use Rattle.script.specs.declared.fields.Number.TheVariants as answer
+use Rattle.script.specs.declared.line_fields.Number.TheVariants as answer
 use Rattle.script.specs.Fields.{spelt, number_of}
-use Rattle.script.proofs.fields.parse_number.Given as goal
+use Rattle.script.proofs.line_fields.parse_number.Given as goal
 
 abbrev pub invariant-loop-i : goal.invariant-loop-i
 invariant-loop-i l = (l.i ≤ length l.field) × (spelt l.most (answer.Of l.value) (drop l.i l.field) ≡ number_of l.most l.field)

@@ -3,7 +3,7 @@
 use mathlib.Core.Path.{sym, ◌∙◌}
 use native.Mathlib.Omega.{arith}
 use Rattle.script.specs.FieldLaws.{eql_length, eql_goes, eql_stops, eql_ends}
-use Rattle.script.proofs.fields.is_same.Goals as goal
+use Rattle.script.proofs.line_fields.is_same.Goals as goal
 
 pub returns-then-a-b : goal.returns-then-a-b
 returns-then-a-b c = let v = c.args in sym (eql_length v.a.now v.b.now c.if-a-b.true)
