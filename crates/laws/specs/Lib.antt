@@ -8,3 +8,4 @@ pub mod Gap
 pub mod Lent
 pub mod Halving
 pub mod Ascii
+pub mod Library

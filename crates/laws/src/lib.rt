@@ -1,3 +1,43 @@
+// Laws of ascending tables and of loops over arrays, over any element type, in specs/; and the moves of elements that every table makes.
+
 #![tactic(auto)]
 
-// No functions: the laws of ascending tables and of loops over arrays, over any element type, stand in specs/.
+ghost use Rattle.std.specs.Prelude.{◌≡◌, ◌+◌, ◌-◌, ◌≤◌, ◌<◌, length, take};
+ghost use Rattle.laws.specs.Place.{insert_at, remove_at};
+ghost use Rattle.laws.specs.Parts.{pasted};
+
+// One element more among the first n, before place at: the later ones move up.
+#[tactic(auto, using(crate::specs::Library::put_in_of))]
+pub fn insert_at<T: Copy>(elements: &mut [T], n: usize, at: usize, element: T)
+    requires { (n < length elements.old) × (at ≤ n) }
+    ensures kept { length elements.new ≡ length elements.old }
+    ensures put_in { take (n + 1) elements.new ≡ insert_at at element (take n elements.old) }
+{
+    elements.copy_within(at..n, at + 1);
+    elements[at] = element;
+}
+
+// The element at place at taken out of the first n: the later ones move down.
+#[tactic(auto, using(crate::specs::Library::taken_out_of))]
+pub fn remove_at<T: Copy>(elements: &mut [T], n: usize, at: usize)
+    requires { (n ≤ length elements.old) × (at < n) }
+    ensures kept { length elements.new ≡ length elements.old }
+    ensures taken_out { take (n - 1) elements.new ≡ remove_at at (take n elements.old) }
+{
+    elements.copy_within(at + 1..n, at);
+}
+
+// A list laid over the elements from a place on; what stands around them is unchanged.
+pub fn paste<T: Copy>(elements: &mut [T], at: usize, list: &[T])
+    requires { at + length list.now ≤ length elements.old }
+    ensures { elements.new ≡ pasted elements.old at list.now }
+{
+    elements[at..at + list.len()].copy_from_slice(list);
+}
+
+// What a call leaves, and what it answers.
+#[derive(Clone, Copy)]
+pub struct After<S, A> {
+    pub left: S,
+    pub answer: A,
+}
