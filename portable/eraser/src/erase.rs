@@ -49,9 +49,16 @@ pub struct Erased {
 /// The length that no slice exceeds, where usize has 64 bits.
 const LONGEST: &str = "9223372036854775807";
 
-/// The one derive, as its tokens stand side by side, and how many they are.
-const DERIVE: &str = "#[derive(Clone,Copy)]";
-const DERIVE_TOKENS: usize = 9;
+/// What may be derived, on a type that is copied: it means the same in both languages.
+const DERIVE: &str = "#[derive(Clone,Copy";
+const DERIVED: &[&str] = &["Debug", "Eq", "Ord", "PartialEq", "PartialOrd"];
+
+/// Numbers that have the same bits on every target, and what of theirs is called or read by name.
+const NUMBERS: &[&str] = &["u8", "u16", "u32", "u64", "i8", "i16", "i32", "i64"];
+const OF_NUMBERS: &[&str] = &["MAX", "from", "from_be_bytes", "try_from"];
+
+/// What is taken from the library by name: the same text below `core` as below `std`.
+const LIBRARY: &[&str] = &["std::cmp::Ordering", "std::marker::PhantomData"];
 
 const WRAPPED: &[&str] = &["u8", "u16", "u32", "u64"];
 
@@ -122,24 +129,41 @@ impl Eraser<'_> {
         })
     }
 
-    /// `#[derive(Clone, Copy)]` on a struct or an enum stays, and so does `#[repr(C)]`; `#[unsafe(no_mangle)]` goes to the C boundary. How many tokens go.
+    /// How many tokens a `#[derive(..)]` at i has; none where there is no such.
+    fn derive(&self, i: usize) -> usize {
+        let head: String = (i..i + 7).map(|j| self.at(j)).collect();
+        if head != DERIVE {
+            return 0;
+        }
+        let mut j = i + 7;
+        while self.at(j) == "," && DERIVED.contains(&self.at(j + 1)) {
+            j += 2;
+        }
+        if self.at(j) == ")" && self.at(j + 1) == "]" {
+            j + 2 - i
+        } else {
+            0
+        }
+    }
+
+    /// `#[derive(..)]` on a struct or an enum stays, and so does `#[repr(C)]`; `#[unsafe(no_mangle)]` goes to the C boundary. How many tokens go.
     fn attribute(&mut self, i: usize) -> Result<usize, Refusal> {
-        let text: String = (i..i + DERIVE_TOKENS).map(|j| self.at(j)).collect();
-        if text == DERIVE {
-            let after = i + DERIVE_TOKENS;
+        let text: String = (i..i + 9).map(|j| self.at(j)).collect();
+        let derived = self.derive(i);
+        if derived > 0 {
+            let after = i + derived;
             let item = after + (self.at(after) == "pub") as usize;
             if !matches!(self.at(item), "struct" | "enum") {
                 return self.refuse(
                     i,
-                    "`#[derive(Clone, Copy)]` on something else than a struct or an enum",
+                    "`#[derive(..)]` on something else than a struct or an enum",
                 );
             }
             self.out.counts.derives += 1;
             return Ok(0);
         }
         if text.starts_with("#[repr(C)]") {
-            let derived: String = (i + 7..i + 7 + DERIVE_TOKENS).map(|j| self.at(j)).collect();
-            let after = i + 7 + if derived == DERIVE { DERIVE_TOKENS } else { 0 };
+            let after = i + 7 + self.derive(i + 7);
             let name = after + 1 + (self.at(after) == "pub") as usize;
             if self.at(name - 1) != "struct" {
                 return self.refuse(i, "`#[repr(C)]` on something else than a struct");
@@ -201,6 +225,11 @@ impl Eraser<'_> {
     fn path(&mut self, i: usize) -> Result<(String, usize), Refusal> {
         let word = self.at(i).to_string();
         if word == "std" {
+            let named: String = (i..i + 5).map(|j| self.at(j)).collect();
+            if LIBRARY.contains(&named.as_str()) {
+                self.out.counts.paths += 1;
+                return Ok(("core".into(), 0));
+            }
             let text: String = (i..i + 5).map(|j| self.at(j)).collect();
             let known = text
                 .strip_prefix("std::num::wrapping_")
@@ -215,6 +244,18 @@ impl Eraser<'_> {
                     self.refuse(i, format!("`{text}`: usize has 32 bits on some targets"))
                 }
                 _ => self.refuse(i, format!("`{text}`")),
+            };
+        }
+        if NUMBERS.contains(&word.as_str()) && OF_NUMBERS.contains(&self.at(i + 2)) {
+            return Ok((word, 0));
+        }
+        if word == "usize" {
+            return match self.at(i + 2) {
+                "from" => Ok((word, 0)),
+                other => self.refuse(
+                    i,
+                    format!("`usize::{other}`: usize has 32 bits on some targets"),
+                ),
             };
         }
         if word == "crate" {
@@ -396,7 +437,8 @@ impl Eraser<'_> {
             let (made, gone) = self.path(i)?;
             return Ok((Some(made), gone));
         }
-        if next == "!" && self.is_name(i) && matches!(self.at(i + 2), "(" | "[" | "{") {
+        let called = next == "!" && matches!(self.at(i + 2), "(" | "[" | "{");
+        if called && self.is_name(i) && text != "matches" {
             return self.refuse(i, format!("a macro, `{text}!`"));
         }
         same

@@ -27,8 +27,8 @@ fn run(words: &[&str]) -> Result<(), (u8, String)> {
             write(&Path::new(folder).join("src"), &p.files).map_err(unwritten)?;
             let c = &p.counts;
             println!(
-                "{} crates, {} files, {} C symbols; tactics {}, ghost use {}, contracts {}, derives {}, paths {}, wrapping {}, exports {}, longest {}",
-                sources.wanted.len(), p.sources, p.symbols, c.tactics, c.ghost_uses, c.contracts, c.derives, c.paths, c.wrapping, c.exports,
+                "{} crates, {} files, {} C symbols; tactics {}, ghost use {}, ghost members {}, contracts {}, derives {}, paths {}, wrapping {}, exports {}, longest {}",
+                sources.wanted.len(), p.sources, p.symbols, c.tactics, c.ghost_uses, c.ghost_members, c.contracts, c.derives, c.paths, c.wrapping, c.exports,
                 c.longest
             );
         }

@@ -312,6 +312,7 @@ pub fn package(sources: &Sources) -> Result<Package, Refusal> {
             let c = &one.counts;
             counts.tactics += c.tactics;
             counts.ghost_uses += c.ghost_uses;
+            counts.ghost_members += c.ghost_members;
             counts.contracts += c.contracts;
             counts.derives += c.derives;
             counts.paths += c.paths;

@@ -43,14 +43,13 @@ pub struct Token {
 
 /// The words of Rust that the sources use and that mean the same in both languages.
 pub const KEYWORDS: &[&str] = &[
-    "as", "const", "continue", "crate", "else", "enum", "extern", "false", "fn", "if", "impl",
-    "let", "match", "mod", "mut", "pub", "return", "self", "struct", "true", "type", "use",
-    "while",
+    "Self", "as", "const", "continue", "crate", "else", "enum", "extern", "false", "fn", "for",
+    "if", "impl", "in", "let", "match", "mod", "mut", "pub", "return", "self", "struct", "trait",
+    "true", "type", "use", "where", "while",
 ];
 
 /// Words of Rust or Rattle that the sources do not use: a keyword of one language could be a name of the other, or mean something else.
 pub const REFUSED_WORDS: &[&str] = &[
-    "Self",
     "abstract",
     "async",
     "await",
@@ -63,11 +62,9 @@ pub const REFUSED_WORDS: &[&str] = &[
     "f32",
     "f64",
     "final",
-    "for",
     "gen",
     "ghost",
     "i128",
-    "in",
     "isize",
     "loop",
     "macro",
@@ -81,7 +78,6 @@ pub const REFUSED_WORDS: &[&str] = &[
     "static",
     "str",
     "super",
-    "trait",
     "try",
     "typeof",
     "u128",
@@ -89,7 +85,6 @@ pub const REFUSED_WORDS: &[&str] = &[
     "unsafe",
     "unsized",
     "virtual",
-    "where",
     "yield",
     "f16",
     "f128",
@@ -98,6 +93,9 @@ pub const REFUSED_WORDS: &[&str] = &[
 
 /// The line at a crate's head that has the prover try its tactics.
 const TACTIC: &str = "#![tactic(auto)]";
+
+/// The beginning of an attribute that names lemmas to the prover, on a function.
+const TACTIC_OF: &str = "#[tactic(";
 
 /// The one place where the word `unsafe` may stand: the attribute of a function that C calls.
 const EXPORTED: &str = "#[unsafe(no_mangle)]";
@@ -111,6 +109,7 @@ const SUFFIXES: [&str; 9] = [
 pub struct Counts {
     pub tactics: usize,
     pub ghost_uses: usize,
+    pub ghost_members: usize,
     pub contracts: usize,
     pub derives: usize,
     pub paths: usize,
@@ -186,6 +185,61 @@ impl<'a> Scanner<'a> {
         Ok(())
     }
 
+    /// `#[tactic(..)]` on a function: words, paths and commas within the brackets.
+    fn tactic_of(&mut self) -> Result<(), Refusal> {
+        let text = self.rest();
+        let Some(end) = text.find(")]\n") else {
+            return self.refuse(format!("`{TACTIC_OF}` that does not end its line"));
+        };
+        let inner = &text[TACTIC_OF.len()..end];
+        if !inner.bytes().all(|b| is_word(b) || b":,() \n".contains(&b)) {
+            return self.refuse(format!("`{TACTIC_OF}` of a form that is not known"));
+        }
+        self.counts.tactics += 1;
+        self.erase(end + 2);
+        Ok(())
+    }
+
+    /// The end of the braces that open at `start`, from there. No quote and no comment may stand in them, since it could hide a brace.
+    fn braces(&mut self, what: &str, start: usize) -> Result<usize, Refusal> {
+        let bytes = &self.rest().as_bytes()[start..];
+        let mut depth = 0usize;
+        for (i, b) in bytes.iter().enumerate() {
+            let two = &bytes[i..bytes.len().min(i + 2)];
+            if b"\"'\\`".contains(b) || [b"//".as_slice(), b"/*", b"--"].contains(&two) {
+                self.line += bytes[..i].iter().filter(|b| **b == b'\n').count();
+                return self.refuse("a quote or a comment in ghost text");
+            }
+            depth += (*b == b'{') as usize;
+            if *b == b'}' {
+                depth -= 1;
+                if depth == 0 {
+                    return Ok(start + i + 1);
+                }
+            }
+        }
+        self.refuse(format!("`{what}` whose braces do not close"))
+    }
+
+    /// `ghost NAME: { .. };` of a trait or `ghost NAME = { .. };` of an impl: within one pair of braces.
+    fn ghost_member(&mut self, depth: usize) -> Result<(), Refusal> {
+        let after = &self.rest()["ghost ".len()..];
+        let name = after.bytes().take_while(|b| is_word(*b)).count();
+        let sign = [": {", " = {"]
+            .into_iter()
+            .find(|sign| after[name..].starts_with(sign));
+        let (Some(sign), true) = (sign, depth == 1 && name > 0) else {
+            return self.refuse("the word `ghost`");
+        };
+        let end = self.braces("ghost", "ghost ".len() + name + sign.len() - 1)?;
+        if self.byte(end) != b';' {
+            return self.refuse("a ghost member that does not end with its braces");
+        }
+        self.counts.ghost_members += 1;
+        self.erase(end + 1);
+        Ok(())
+    }
+
     /// `ghost use PATH;` or `ghost use PATH.{NAMES};`, outside every item.
     fn ghost_use(&mut self, depth: usize) -> Result<(), Refusal> {
         if depth != 0 {
@@ -216,7 +270,7 @@ impl<'a> Scanner<'a> {
         Ok(())
     }
 
-    /// `requires`, `ensures`, perhaps a name, then braces. No quote and no comment may stand in them, since it could hide a brace.
+    /// `requires`, `ensures`, perhaps a name, then braces.
     fn contract(&mut self, word: &str, signature: bool) -> Result<(), Refusal> {
         if !signature {
             return self.refuse(format!("`{word}` that belongs to no function's signature"));
@@ -231,26 +285,10 @@ impl<'a> Scanner<'a> {
         if !spaced || !inner.bytes().all(|b| b.is_ascii_lowercase() || b == b'_') {
             return self.refuse(format!("`{word}` of a form that is not known"));
         }
-        let start = word.len() + brace;
-        let bytes = &self.rest().as_bytes()[start..];
-        let mut depth = 0usize;
-        for (i, b) in bytes.iter().enumerate() {
-            let two = &bytes[i..bytes.len().min(i + 2)];
-            if b"\"'\\`".contains(b) || [b"//".as_slice(), b"/*", b"--"].contains(&two) {
-                self.line += bytes[..i].iter().filter(|b| **b == b'\n').count();
-                return self.refuse("a quote or a comment in ghost text");
-            }
-            depth += (*b == b'{') as usize;
-            if *b == b'}' {
-                depth -= 1;
-                if depth == 0 {
-                    self.counts.contracts += 1;
-                    self.erase(start + i + 1);
-                    return Ok(());
-                }
-            }
-        }
-        self.refuse(format!("`{word}` whose braces do not close"))
+        let end = self.braces(word, word.len() + brace)?;
+        self.counts.contracts += 1;
+        self.erase(end);
+        Ok(())
     }
 
     fn number(&mut self) -> Result<(), Refusal> {
@@ -316,6 +354,7 @@ impl<'a> Scanner<'a> {
                 let word = &self.rest()[..n];
                 match word {
                     "ghost" if self.rest().starts_with("ghost use ") => self.ghost_use(depth)?,
+                    "ghost" if self.byte(n) == b' ' => self.ghost_member(depth)?,
                     "requires" | "ensures" => self.contract(word, signature == Some(depth))?,
                     _ if REFUSED_WORDS.contains(&word) => {
                         return self.refuse(format!("the word `{word}`"))
@@ -332,6 +371,8 @@ impl<'a> Scanner<'a> {
                 }
             } else if self.rest().starts_with(TACTIC) {
                 self.tactic(depth)?;
+            } else if self.rest().starts_with(TACTIC_OF) {
+                self.tactic_of()?;
             } else if self.rest().starts_with(EXPORTED) {
                 for part in ["#", "[", "unsafe", "(", "no_mangle", ")", "]"] {
                     let kind = if is_word(part.as_bytes()[0]) {
@@ -343,7 +384,7 @@ impl<'a> Scanner<'a> {
                 }
             } else if self.rest().starts_with("::") {
                 self.push(Kind::Sign, 2);
-            } else if b"-+*%/=<>!&|.,;:(){}[]#_".contains(&b) {
+            } else if b"-+*%/=<>!&|.,;:(){}[]#_?".contains(&b) {
                 if matches!(b, b'{' | b';') && signature == Some(depth) {
                     signature = None;
                 }

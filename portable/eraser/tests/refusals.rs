@@ -30,6 +30,29 @@ fn ghost_text_of_other_forms() {
     refused("ghost use a.{b, {c}};\n", 1, "form that is not known");
     refused("ghost use a -- b\n;\n", 1, "form that is not known");
     refused("ghost fn f() {}\n", 1, "the word `ghost`");
+    refused("ghost number = { a };\n", 1, "the word `ghost`");
+    for member in [
+        "number { a };",
+        "number = a;",
+        "= { a };",
+        "number =  { a };",
+    ] {
+        refused(
+            &format!("impl A {{\n    ghost {member}\n}}\n"),
+            2,
+            "the word `ghost`",
+        );
+    }
+    refused(
+        "impl A {\n    ghost number = { a }\n}\n",
+        2,
+        "does not end with its braces",
+    );
+    refused(
+        "impl A {\n    ghost number = { \"a\" };\n}\n",
+        2,
+        "a quote or a comment in ghost text",
+    );
     refused(
         "fn f() {\n    let a = 1;\n    ensures { x }\n}\n",
         3,
@@ -100,7 +123,7 @@ fn all_keywords_are_known() {
 
 #[test]
 fn text_that_is_not_known() {
-    refused("fn f() {\n    a ? b\n}\n", 2, "unknown text '?'");
+    refused("fn f() {\n    a @ b\n}\n", 2, "unknown text '@'");
     refused("fn f() {\n    λ\n}\n", 2, "unknown text 'λ'");
     refused("\tfn f() {}\n", 1, "unknown text '\\t'");
     refused("fn f() {}\r\n", 1, "unknown text '\\r'");
@@ -174,13 +197,30 @@ fn attributes_and_exports_of_other_forms() {
         1,
         "attribute #[derive(Clone)]",
     );
+    for derived in [
+        "PartialEq",
+        "Copy, Clone",
+        "Clone, Copy,",
+        "Clone, Copy, Hash",
+    ] {
+        refused(
+            &format!("#[derive({derived})]\nstruct A {{}}\n"),
+            1,
+            "attribute #[derive(",
+        );
+    }
     refused(
         "#[no_mangle]\npub extern \"C\" fn f() {}\n",
         1,
         "attribute #[no_mangle]",
     );
     refused("#[unsafe(naked)]\npub fn f() {}\n", 1, "the word `unsafe`");
-    refused("#[tactic(auto)]\nfn f() {}\n", 1, "the word `auto`");
+    refused("#[tactic(auto)] fn f() {}\n", 1, "does not end its line");
+    refused(
+        "#[tactic(auto, \"a\")]\nfn f() {}\n",
+        1,
+        "form that is not known",
+    );
     refused("fn f() {\n    #![tactic(auto)]\n}\n", 2, "within an item");
     refused(
         "#[unsafe(no_mangle)]\npub fn f() -> u8 {}\n",
@@ -274,6 +314,14 @@ fn paths_of_other_forms() {
         "begins with `unknown`",
     );
     refused("fn f() {\n    u8::g()\n}\n", 2, "begins with `u8`");
+    for path in ["usize::MAX", "usize::try_from(a)"] {
+        refused(&format!("fn f() {{\n    {path}\n}}\n"), 2, "32 bits");
+    }
+    refused(
+        "use std::collections::HashMap;\n",
+        1,
+        "`std::collections::HashMap`",
+    );
     refused("fn f() {\n    self::g()\n}\n", 2, "begins with `self`");
     refused("fn f() {\n    ::g()\n}\n", 2, "`::` of a form");
     refused("fn f() {\n    A::<u8>()\n}\n", 2, "`::` of a form");

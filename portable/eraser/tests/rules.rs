@@ -48,6 +48,29 @@ fn the_line_for_the_provers_tactics_goes() {
 }
 
 #[test]
+fn lemmas_named_to_the_prover_go() {
+    let text = "impl A {\n    // said\n    #[tactic(auto, using(crate::specs::Library::put_in_of), unfolding(a))]\n    fn f() {\n    }\n}\n";
+    let plain = "impl A {\n    // said\n\n    fn f() {\n    }\n}\n";
+    assert_eq!(body(text), plain);
+    assert_eq!(erased(text).counts.tactics, 1);
+}
+
+#[test]
+fn ghost_members_of_a_trait_and_an_impl_go() {
+    let text = "pub trait A: Copy {\n    ghost number: { Self };\n    fn f(self) -> u8\n        ensures { x };\n}\nimpl A for B {\n    ghost number = { λ s. record { a = s } };\n    fn f(self) -> u8 {\n        self.0\n    }\n}\n";
+    let plain = "pub trait A: Copy {\n\n    fn f(self) -> u8\n        ;\n}\nimpl A for B {\n\n    fn f(self) -> u8 {\n        self.0\n    }\n}\n";
+    assert_eq!(body(text), plain);
+    assert_eq!(erased(text).counts.ghost_members, 2);
+}
+
+#[test]
+fn library_paths_are_cores() {
+    let e = erased("use std::marker::PhantomData;\nuse std::cmp::Ordering;\nfn f(a: bool) -> u64 {\n    u64::from(a) + usize::from(a) as u64 + u64::MAX\n}\n");
+    let plain = "use core::marker::PhantomData;\nuse core::cmp::Ordering;\nfn f(a: bool) -> u64 {\n    u64::from(a) + usize::from(a) as u64 + u64::MAX\n}\n";
+    assert!(e.text.ends_with(plain), "{}", e.text);
+}
+
+#[test]
 fn contracts_go_with_their_names_and_line_breaks() {
     let text = "fn f(a: u8) -> u8\n    requires { ⌜ a { b } ⌝ }\n    requires room { ⌜ x ⌝ }\n    ensures told { λ r.\n        ⌜ r ⌝ }\n{\n    a\n}\n";
     let plain = "fn f(a: u8) -> u8\n\n\n\n\n{\n    a\n}\n";
@@ -72,6 +95,8 @@ fn structs_and_enums_that_may_be_copied_stay_so() {
     assert!(e.text.ends_with(text), "{}", e.text);
     assert_eq!(e.counts.derives, 3);
     assert_eq!(e.layouts, ["D"]);
+    let text = "#[derive(Clone, Copy, PartialEq, Eq, PartialOrd, Ord)]\npub struct F(pub u8);\n";
+    assert!(erased(text).text.ends_with(text));
 }
 
 #[test]
@@ -154,6 +179,6 @@ fn the_longest_length_is_the_targets() {
 
 #[test]
 fn the_rest_is_left_as_it_is() {
-    let text = "fn f<'a>(a: &'a [u8], n: u16) -> &'a [u8] {\n    match n {\n        0 => &a[..0],\n        1..=0xFF_u16 => a, // said\n        _ => {\n            if !(n == 2) {\n                return a;\n            }\n            a\n        }\n    }\n}\n";
+    let text = "fn g(a: &[u8]) -> Option<u8> {\n    for b in a {\n        if matches!(b, 1 | 2) {\n            return Some(*b);\n        }\n    }\n    let n = h(a)?;\n    a.iter().filter(|b| **b == n).copied().next()\n}\nfn f<'a>(a: &'a [u8], n: u16) -> &'a [u8] {\n    match n {\n        0 => &a[..0],\n        1..=0xFF_u16 => a, // said\n        _ => {\n            if !(n == 2) {\n                return a;\n            }\n            a\n        }\n    }\n}\n";
     assert_eq!(body(text), text);
 }
