@@ -69,12 +69,5 @@ pub fn check_sequence(arriving: u8, last: u8) -> Checked
 pub fn is_accepted(answer: Checked) -> bool
     ensures { result ≡ accepted answer }
 {
-    match answer {
-        Checked::Accepted => true,
-        Checked::UniverseTimeout(_, _) => false,
-        Checked::SourcesExceeded(_) => false,
-        Checked::OutOfSequence(_, _, _) => false,
-        Checked::PairsFull => false,
-        Checked::Repeated(_, _, _) => false,
-    }
+    matches!(answer, Checked::Accepted)
 }
