@@ -1,25 +1,25 @@
--- Lists of rows seen through what they stand for: one law for each kind of loop turn and return of the code.
+-- Lists of rows seen through what they stand for: what a walk, a search or a fold along the rows answers, and what finding answers.
 -- Assumes nothing.
-use Rattle.std.specs.Prelude.{◌≡◌, refl, ◌≢◌, Bool, true, false, ℕ, ◌+◌, ◌-◌, ◌≤◌, ◌<◌, min, length, take, drop, get_or}
+use Rattle.std.specs.Prelude.{◌≡◌, refl, ◌≢◌, Bool, true, false, not, ◌&&◌, ◌||◌, ℕ, ◌+◌, ◌-◌, ◌≤◌, ◌<◌, min, nat_lt, length, take, drop, get_or, Some, None}
+use Rattle.std.specs.List.{prefix_len, list_any, fold, slice_range}
 use Rattle.std.proofs.Common.{sym, ap, ◌∙◌, arith, length-take, get_or-take, eqb-true, eq-eqb, le-ltb, leb-false}
 use Rattle.std.proofs.Math.Option.{none, some}
 use mathlib.Core.List.{List, [], ◌∷◌, map}
-use Rattle.std.proofs.lemmas.List.{length-map}
+use Rattle.std.proofs.lemmas.List.{length-map, drop-take}
 use Rattle.std.proofs.lemmas.Bool.{lt-leb}
 use Rattle.laws.specs.Cases.{split, clash}
 use Rattle.laws.specs.Order.{Order, before_by}
-use Rattle.laws.specs.Table.{any, find}
-use Rattle.laws.specs.Place.{place, prefix, absent, absent_end, present, get_d_map}
-use Rattle.laws.specs.Arrays.{next}
+use Rattle.laws.specs.Table.{any, find, any_map}
+use Rattle.laws.specs.Place.{place, absent, absent_end, present, get_d_map, prefix_map}
+use Rattle.laws.specs.Library.{prefix_is, any_is}
 use Rattle.rules.specs.declared.Cid.{Cid}
-use Rattle.rules.specs.Cid.{same}
+use Rattle.rules.specs.Cid.{same, before}
 use Rattle.rules.proofs.CidLaws.{same_refl, same_path}
 use Rattle.rules.specs.Age.{expired}
 use Rattle.pairs.specs.declared.Pair.{Pair}
-use Rattle.pair_rows.specs.declared.Found.TheVariants.{At, Nothing}
-use Rattle.pairs.specs.Table.{Key, key, key_of}
+use Rattle.pairs.specs.Table.{Key, key, key_of, key_before, itself, has}
 use Rattle.pairs.specs.Laws.{stale}
-use Rattle.pair_rows.specs.View.{Rows, pair_of, placed, same_key, older, lower}
+use Rattle.pair_rows.specs.View.{Rows, cid_of, pair_of, placed, same_key, older, lower}
 
 -- ── keys ──
 pub same_key_path : (p : Pair) (c : Cid) (u : ℕ) → same_key p c u ≡ true → key_of p ≡ key c u
@@ -38,24 +38,29 @@ same_key_not p c u h e =
 pub same_cid_not : (a b : Cid) → same a b ≡ false → a ≢ b
 same_cid_not a b h e = clash (rw e (same_refl b)) h
 
--- ── two orders one after the other, by the tests in turn ──
-module _ {K X Y : Type 0} (ltx : X → X → Bool) (lty : Y → Y → Bool) (first : K → X) (second : K → Y) (a b : K) where
-  pub by_first : ltx (first a) (first b) ≡ true → before_by ltx lty first second a b ≡ true
-  unfolding before_by
-  by_first e = rw e
+-- ── two keys, by the tests of code ──
+pub key_before_by : (a b : Key) → key_before a b ≡ (before a.cid b.cid || not (before b.cid a.cid) && nat_lt a.universe b.universe)
+unfolding before_by
+key_before_by a b = split (before a.cid b.cid) (λ e. rw e) (λ e. split (before b.cid a.cid) (λ f. rw (e, f)) (λ f. rw (e, f)))
 
-  pub by_first_not : ltx (first a) (first b) ≡ false → ltx (first b) (first a) ≡ true → before_by ltx lty first second a b ≡ false
-  unfolding before_by
-  by_first_not e f = rw (e, f)
+-- ── the rows that a walk, a search and a fold look at, seen as what they stand for ──
+pub place_walked : (k : Key) (rows : Rows) → place key_before key_of k (map pair_of rows) ≡ prefix_len (λ row. key_before (key_of (pair_of row)) k) rows
+place_walked k rows = prefix_map pair_of (λ p. key_before (key_of p) k) rows ∙ prefix_is (λ row. key_before (key_of (pair_of row)) k) rows
 
-  pub by_second : ltx (first a) (first b) ≡ false → ltx (first b) (first a) ≡ false → before_by ltx lty first second a b ≡ lty (second a) (second b)
-  unfolding before_by
-  by_second e f = rw (e, f)
+pub source_walked : (c : Cid) (rows : Rows) → place before itself c (map cid_of rows) ≡ prefix_len (λ row. before (cid_of row) c) rows
+source_walked c rows = prefix_map cid_of (λ d. before d c) rows ∙ prefix_is (λ row. before (cid_of row) c) rows
 
--- a walk that has come to the end
-pub prefix_done : {A : Type 0} (p : A → Bool) (i : ℕ) (l : List A) → l ≡ [] → i + prefix p l ≡ i
-unfolding prefix
-prefix_done p i l e = rw e (omega arith)
+-- the rows of places j to n
+pub behind : (j n : ℕ) (rows : Rows) → j ≤ n → drop j (take n rows) ≡ slice_range rows j n
+behind j n rows h = let e : j + (n - j) ≡ n = omega arith in ap (λ (k : ℕ). drop j (take k rows)) (sym e) ∙ drop-take j (n - j) rows
+
+pub has_searched : (c : Cid) (rows : Rows) → has (map pair_of rows) c ≡ list_any (λ row. same (pair_of row).cid c) rows
+has_searched c rows = any_map pair_of (λ p. same p.cid c) rows ∙ any_is (λ row. same (pair_of row).cid c) rows
+
+pub lower_folded : (o : ℕ) (rows : Rows) → lower o (map pair_of rows) ≡ fold (λ least row. min least (pair_of row).reading) o rows
+unfolding lower
+lower_folded o [] = refl
+lower_folded o (row ∷ rows) = lower_folded (min o (pair_of row).reading) rows
 
 -- ── the entry at a key's place, among the rows in use ──
 module _ {K E : Type 0} (lt : K → K → Bool) (key : E → K) (O : Order lt) (k : K) (f : List ℕ → E) (n : ℕ) (rows : Rows) (fits : n ≤ length rows) where
@@ -84,26 +89,16 @@ module _ {K E : Type 0} (lt : K → K → Bool) (key : E → K) (O : Order lt) (
     found_end h = absent_end lt key O k used (omega (arith, long))
 
     -- and what finding answers
-    pub placed_hit : i < n → key (f (get_or rows i [])) ≡ k → At i ≡ placed (place lt key k used) (find lt key k used)
-    placed_hit h e = ap At at ∙ ap (placed (place lt key k used)) (sym (found_hit h e))
+    pub placed_hit : i < n → key (f (get_or rows i [])) ≡ k → Some i ≡ placed (place lt key k used) (find lt key k used)
+    placed_hit h e = ap Some at ∙ ap (placed (place lt key k used)) (sym (found_hit h e))
 
-    pub placed_miss : i < n → key (f (get_or rows i [])) ≢ k → Nothing ≡ placed (place lt key k used) (find lt key k used)
+    pub placed_miss : i < n → key (f (get_or rows i [])) ≢ k → None ≡ placed (place lt key k used) (find lt key k used)
     placed_miss h e = ap (placed (place lt key k used)) (sym (found_miss h e))
 
-    pub placed_end : n ≤ i → Nothing ≡ placed (place lt key k used) (find lt key k used)
+    pub placed_end : n ≤ i → None ≡ placed (place lt key k used) (find lt key k used)
     placed_end h = ap (placed (place lt key k used)) (sym (found_end h))
 
 -- ── readings ──
-module _ (rows : Rows) (n i o : ℕ) where
-  pub lower_next : (l : ℕ) → i < n → i < length rows → l ≡ min o (pair_of (get_or rows i [])).reading
-      → lower l (map pair_of (drop (i + 1) (take n rows))) ≡ lower o (map pair_of (drop i (take n rows)))
-  unfolding lower
-  lower_next l h f e = rw (next rows n i [] h f, e)
-
-  pub lower_done : drop i (take n rows) ≡ [] → lower o (map pair_of (drop i (take n rows))) ≡ o
-  unfolding lower
-  lower_done e = rw e
-
 pub lower_under : (o : ℕ) (ps : List Pair) → lower o ps ≤ o
 unfolding lower
 lower_under o [] = omega arith

@@ -1,6 +1,6 @@
 -- What finding a row says, and the rows in use after a store or a removal: one law for each.
 -- Assumes nothing.
-use Rattle.std.specs.Prelude.{◌≡◌, refl, Bool, List, [], map, ℕ, ◌+◌, ◌-◌, ◌<◌, take, get_or, set}
+use Rattle.std.specs.Prelude.{◌≡◌, refl, Bool, List, [], map, ℕ, ◌+◌, ◌-◌, ◌<◌, take, get_or, set, Some, None}
 use Rattle.std.proofs.Common.{sym, ap, ◌∙◌, arith, length-take, get_or-take}
 use Rattle.std.proofs.Math.Option.{Option, none, some}
 use Rattle.std.proofs.lemmas.List.{length-map}
@@ -8,15 +8,14 @@ use Rattle.laws.specs.Order.{Order}
 use Rattle.laws.specs.Table.{find, store, remove}
 use Rattle.laws.specs.Place.{place, insert_at, remove_at, store_insert, store_replace, remove_place, insert_at_map, remove_at_map, set_map, get_d_map, found_place}
 use Rattle.laws.specs.Arrays.{replace}
-use Rattle.pair_rows.specs.declared.Found.TheVariants.{At, Nothing}
 use Rattle.pair_rows.specs.View.{Rows, placed}
 
 -- ── what finding says ──
-pub placed_at : {A : Type 0} (j i : ℕ) (o : Option A) → placed j o ≡ At i → (a : A) × (o ≡ some a) × (j ≡ i)
+pub placed_at : {A : Type 0} (j i : ℕ) (o : Option A) → placed j o ≡ Some i → (a : A) × (o ≡ some a) × (j ≡ i)
 placed_at j i none e = let z : ◌≡◌ {A = ℕ} 0 1 = cc in absurd (omega arith)
 placed_at j i (some a) e = (a, refl, (cc))
 
-pub placed_nothing : {A : Type 0} (j : ℕ) (o : Option A) → placed j o ≡ Nothing → o ≡ none
+pub placed_nothing : {A : Type 0} (j : ℕ) (o : Option A) → placed j o ≡ None → o ≡ none
 placed_nothing j none e = refl
 placed_nothing j (some a) e = let z : ◌≡◌ {A = ℕ} 0 1 = cc in absurd (omega arith)
 

@@ -1,6 +1,7 @@
 -- What the lent rows stand for: a pair row is [CID high, CID low, universe * 256 + sequence, reading], a source row [CID high, CID low].
 -- Assumes nothing.
-use Rattle.std.specs.Prelude.{◌≡◌, Bool, false, not, ◌&&◌, List, [], ◌∷◌, map, ℕ, ◌≤◌, ◌/◌, ◌%◌, min, ltb, eqb, length, take, get_or}
+use Rattle.std.specs.Prelude.{◌≡◌, Bool, false, not, ◌&&◌, List, [], ◌∷◌, map, ℕ, ◌≤◌, ◌/◌, ◌%◌, min, ltb, eqb, length, take, get_or, Some, None}
+use Rattle.std.specs.Prelude as rust
 use Rattle.std.proofs.Math.Option.{Option, none, some}
 use Rattle.laws.specs.Table.{any, find, Ascending}
 use Rattle.laws.specs.Place.{place}
@@ -8,8 +9,6 @@ use Rattle.rules.specs.declared.Cid.{Cid}
 use Rattle.rules.specs.Cid.{same, before}
 use Rattle.rules.specs.Age.{expired}
 use Rattle.pairs.specs.declared.Pair.{Pair}
-use Rattle.pair_rows.specs.declared.Found.{Found}
-use Rattle.pair_rows.specs.declared.Found.TheVariants.{At, Nothing}
 use Rattle.pairs.specs.declared.SweepAnswer.{SweepAnswer}
 use Rattle.pairs.specs.declared.SweepAnswer.TheVariants.{Quiet, TimedOut}
 use Rattle.pairs.specs.Table.{Key, key_of, key_before, itself, capacity, pair_at, has}
@@ -48,14 +47,14 @@ abbrev pub last_reading : ℕ
 last_reading = 0xFFFFFFFFFFFFFFFF
 
 -- "Finding a pair answers nothing or its place."
-abbrev pub placed : {A : Type 0} → ℕ → Option A → Found
-placed i none = Nothing
-placed i (some p) = At i
+abbrev pub placed : {A : Type 0} → ℕ → Option A → rust.Option ℕ
+placed i none = None
+placed i (some p) = Some i
 
-abbrev pub found_at : Key → List Pair → Found
+abbrev pub found_at : Key → List Pair → rust.Option ℕ
 found_at k ps = placed (place key_before key_of k ps) (pair_at k ps)
 
-abbrev pub source_at : Cid → List Cid → Found
+abbrev pub source_at : Cid → List Cid → rust.Option ℕ
 source_at c cs = placed (place before itself c cs) (find before itself c cs)
 
 -- the row's CID is before this one
@@ -88,8 +87,6 @@ later_note a (TimedOut c u) = TimedOut c u
 -- what the walk along pairs and sources requires
 pub record Walkable (n : ℕ) (pairs : Rows) (m : ℕ) (sources : Rows) : Type 0 where
   pub n_fits : n ≤ capacity
-  pub pairs_room : length pairs ≡ capacity
   pub m_fits : m ≤ capacity
-  pub sources_room : length sources ≡ capacity
   pub pairs_ascend : Ascending key_before key_of (pairs_of n pairs)
   pub sources_ascend : Ascending before itself (listed_sources_of m sources)

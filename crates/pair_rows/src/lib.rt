@@ -1,4 +1,4 @@
-// Rows of pair tables in lent memory: what a row stands for, where a key stands, rows put in, taken out and moved.
+// Rows of pair tables in lent memory: what a row stands for, and where a key stands.
 
 #![tactic(auto)]
 
@@ -12,12 +12,9 @@ ghost use Rattle.pairs.specs.Table.{capacity};
 pub use crate::rows::{cid_of, pair_of};
 
 // What the passes of `pair_sweeps` and the calls of `pair_tables` are made of; no other crate uses these.
-pub use crate::rows::{
-    insert_pair, insert_source, move_pair, move_source, pair_row, remove_pair, remove_source,
-    source_row,
-};
+pub use crate::rows::{pair_row, source_row};
 pub use crate::search::{
-    earlier, find_source, has_pair, least_reading, place_of, same_key, skip_before, source_place,
+    find_source, has_pair, least_reading, place_of, same_key, skip_before, source_place,
 };
 
 // How many pairs a table holds, and how many CIDs it lists.
@@ -32,13 +29,6 @@ pub type SourceRow = [u64; 2];
 pub type PairRows = [PairRow; PAIRS];
 
 pub type SourceRows = [SourceRow; PAIRS];
-
-// Where a pair stands.
-#[derive(Clone, Copy)]
-pub enum Found {
-    At(usize),
-    Nothing,
-}
 
 // The number that the definitions speak of is the one that the rows have.
 pub fn capacity() -> usize

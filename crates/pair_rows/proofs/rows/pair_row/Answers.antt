@@ -10,6 +10,7 @@ pub returns : goal.returns
 unfolding pair_of cid_of
 returns c =
     let p = c.args.pair in
-    let u : (p.universe * 256 + p.sequence) / 256 % 65536 ≡ p.universe = omega arith in
-    let s : (p.universe * 256 + p.sequence) % 256 ≡ p.sequence = omega arith in
+    let w = c.from.result * 256 + c.from-2.result in
+    let u : w / 256 % 65536 ≡ p.universe = omega arith in
+    let s : w % 256 ≡ p.sequence = omega arith in
     λ i. record { cid = p.cid; universe = u i; sequence = s i; reading = p.reading }

@@ -11,25 +11,22 @@ use Rattle.pairs.specs.Table.{itself}
 use Rattle.pair_rows.specs.View.{cid_of}
 use Rattle.pair_rows.specs.Rows.{same_cid_not, placed_hit, placed_miss, placed_end}
 use Rattle.pair_rows.proofs.search.find_source.Goals as goal
+use Rattle.pair_rows.proofs.search.find_source.Goals.{else-i-n-via-then-i-n+else-is_same, else-i-n-via-else-i-n}
 
 pub returns-then-is_same : goal.returns-then-is_same
 returns-then-is_same c =
-    let test : same (cid_of (get_or c.args.sources.now c.source_place-i.result [])) c.args.cid ≡ c.is_same.result = ap (λ (d : Cid). same d c.args.cid) (sym c.cid_of-own.ensures) ∙ sym c.is_same.ensures in
-    let p = c in
-    let v = p.args in
-    placed_hit before itself cid_order v.cid cid_of v.n v.sources.now (omega arith) p.source_place-i.result p.source_place-i.ensures.1 (omega arith)
-    (same_path (cid_of (get_or v.sources.now p.source_place-i.result [])) v.cid (test ∙ c.if-is_same.true))
-
-pub returns-else-is_same : goal.returns-else-is_same
-returns-else-is_same c =
-    let test : same (cid_of (get_or c.args.sources.now c.source_place-i.result [])) c.args.cid ≡ c.is_same.result = ap (λ (d : Cid). same d c.args.cid) (sym c.cid_of-own.ensures) ∙ sym c.is_same.ensures in
-    let p = c in
-    let v = p.args in
-    placed_miss before itself cid_order v.cid cid_of v.n v.sources.now (omega arith) p.source_place-i.result p.source_place-i.ensures.1 (omega arith)
-    (same_cid_not (cid_of (get_or v.sources.now p.source_place-i.result [])) v.cid (test ∙ c.if-is_same.false))
+    let v = c.args in
+    let test : same (cid_of (get_or v.sources.now c.source_place-i.result [])) v.cid ≡ c.is_same.result = ap (λ (d : Cid). same d v.cid) (sym c.cid_of.ensures) ∙ sym c.is_same.ensures in
+    placed_hit before itself cid_order v.cid cid_of v.n v.sources.now (omega arith) c.source_place-i.result c.source_place-i.ensures.1 (omega arith)
+    (same_path (cid_of (get_or v.sources.now c.source_place-i.result [])) v.cid (test ∙ c.if-is_same.true))
 
 pub returns-else-i-n : goal.returns-else-i-n
 returns-else-i-n c =
-    let p = c in
-    let v = p.args in
-    placed_end before itself cid_order v.cid cid_of v.n v.sources.now (omega arith) p.source_place-i.result p.source_place-i.ensures.1 c.if-i-n.false
+    let v = c.args in
+    elim c.else-i-n.branch [
+      | else-i-n-via-then-i-n+else-is_same w ↦
+          let test : same (cid_of (get_or v.sources.now c.source_place-i.result [])) v.cid ≡ w.is_same.result = ap (λ (d : Cid). same d v.cid) (sym w.cid_of.ensures) ∙ sym w.is_same.ensures in
+          placed_miss before itself cid_order v.cid cid_of v.n v.sources.now (omega arith) c.source_place-i.result c.source_place-i.ensures.1 (omega arith)
+          (same_cid_not (cid_of (get_or v.sources.now c.source_place-i.result [])) v.cid (test ∙ w.if-is_same.false))
+      | else-i-n-via-else-i-n w ↦ placed_end before itself cid_order v.cid cid_of v.n v.sources.now (omega arith) c.source_place-i.result c.source_place-i.ensures.1 w.if-i-n.false
+    ]
