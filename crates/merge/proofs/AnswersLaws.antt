@@ -1,7 +1,7 @@
 -- What either merge answers, and what an answer says of its data and of the output: for the code and for its callers.
 -- Assumes nothing.
-use Rattle.std.specs.Prelude.{◌≡◌, refl, List, ◌++◌, ℕ, ◌≤◌, ◌<◌, max, ltb, length, take, drop}
-use Rattle.std.proofs.Common.{ap, ◌∙◌, arith}
+use Rattle.std.specs.Prelude.{◌≡◌, refl, List, ◌++◌, ℕ, ◌≤◌, ◌<◌, max, ltb, length, take, drop, Some, None}
+use Rattle.std.proofs.Common.{ap, sym, ◌∙◌, arith}
 use Rattle.std.proofs.Math.Option.{none, some}
 use Rattle.std.proofs.Math.Seq.{take-append_seam}
 use borrow.Author.Tests.{ltb-true, lt-ltb, le-ltb}
@@ -18,16 +18,16 @@ impossible z = absurd (omega arith)
 
 -- ── the lists' lengths ──
 module _ (e p : Dmx) where
-  pub long_older : most_values < length e.values → too_long e.values p.values ≡ some (length e.values)
+  pub long_older : most_values < length e.values → too_long e.values p.values ≡ Some (length e.values)
   unfolding too_long
   long_older h = let f = lt-ltb most_values (length e.values) h in cc
 
   module _ (g : length e.values ≤ most_values) where
-    pub long_newer : most_values < length p.values → too_long e.values p.values ≡ some (length p.values)
+    pub long_newer : most_values < length p.values → too_long e.values p.values ≡ Some (length p.values)
     unfolding too_long
     long_newer h = let f = le-ltb most_values (length e.values) g in let k = lt-ltb most_values (length p.values) h in cc
 
-    pub long_neither : length p.values ≤ most_values → too_long e.values p.values ≡ none
+    pub long_neither : length p.values ≤ most_values → too_long e.values p.values ≡ None
     unfolding too_long
     long_neither h = let f = le-ltb most_values (length e.values) g in let k = le-ltb most_values (length p.values) h in cc
 
@@ -48,6 +48,13 @@ module _ (e p : Dmx) where
       split (ltb most_values (length e.values)) (λ h. cc)
       (λ h. split (ltb most_values (length p.values)) (λ g. cc)
       (λ g. split (ltb p.head.priority e.head.priority) (λ l. cc) (λ l. cc)))
+
+  -- so that what is told is the answer's number and values
+  pub htp_told_is : (room : ℕ) → htp_told room e p ≡ (htp_number_of (htp_answer room e p), htp_values_of (htp_answer room e p))
+  htp_told_is room = sym (htp_answer_told room refl)
+
+  pub choice_told_is : choice_told e p ≡ (choice_number_of (choice e p), choice_values_of (choice e p))
+  choice_told_is = sym (choice_answer_told refl)
 
 -- "No stopped call writes output"
 pub htp_stopped : (r : HtpAnswer) (e p : Dmx) (out : List ℕ) → (htp_number_of r ≡ 0 → ⊥) → htp_output r e p out ≡ out

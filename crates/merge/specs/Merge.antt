@@ -1,7 +1,8 @@
 -- Document 01, 'Merging'.
 -- Assumes nothing.
-use Rattle.std.specs.Prelude.{Bool, false, not, cond, ◌&&◌, ◌||◌, List, [], ◌∷◌, ◌++◌, ℕ, max, ltb, eqb, length, drop}
-use Rattle.std.proofs.Math.Option.{Option, none, some}
+use Rattle.std.specs.Prelude.{Bool, false, not, cond, ◌&&◌, ◌||◌, List, [], ◌∷◌, ◌++◌, ℕ, max, ltb, eqb, length, drop, Option, Some, None}
+use Rattle.std.proofs.Math.Option as option
+use Rattle.std.proofs.Math.Option.{none, some}
 use Rattle.rules.specs.Answer.{Value, number}
 use Rattle.merge.specs.declared.DmxData.{DmxData}
 use Rattle.merge.specs.declared.SourceCid.TheVariants.{Merged}
@@ -61,25 +62,25 @@ joined e p =
     (blended e p))
 
 -- the older e with the newer p; nothing where the merge is refused
-unfoldable pub htp_merge : Dmx → Dmx → Option Dmx
+unfoldable pub htp_merge : Dmx → Dmx → option.Option Dmx
 htp_merge e p = cond (mergeable e p) (some (joined e p)) none
 
 -- "Called directly, either merge gives 1 for a list over 513, the older tested first."
 unfoldable pub too_long : List ℕ → List ℕ → Option ℕ
 too_long xs ys =
-    cond (ltb most_values (length xs)) (some (length xs))
-    (cond (ltb most_values (length ys)) (some (length ys))
-    none)
+    cond (ltb most_values (length xs)) (Some (length xs))
+    (cond (ltb most_values (length ys)) (Some (length ys))
+    None)
 
 -- "The highest-value merge then gives 8, then 15 if the output lent for its values is shorter than the longer list"
-unfoldable pub htp_with : ℕ → ℕ → Option Dmx → HtpAnswer
+unfoldable pub htp_with : ℕ → ℕ → option.Option Dmx → HtpAnswer
 htp_with needed room none = htp.Refused
 htp_with needed room (some d) = cond (ltb room needed) (htp.OutputShort needed) (htp.Merged d.head (length d.values))
 
 unfoldable pub htp_answer : ℕ → Dmx → Dmx → HtpAnswer
 htp_answer room e p = elim (too_long e.values p.values) [
-  | some n ↦ htp.TooLong n
-  | none ↦ htp_with (max (length e.values) (length p.values)) room (htp_merge e p)
+  | Some n ↦ htp.TooLong n
+  | None ↦ htp_with (max (length e.values) (length p.values)) room (htp_merge e p)
 ]
 
 -- "output past its values is unchanged"; a stopped call writes nothing
@@ -118,8 +119,8 @@ preferred e p = cond (ltb p.head.priority e.head.priority) e p
 
 unfoldable pub choice : Dmx → Dmx → Choice
 choice e p = elim (too_long e.values p.values) [
-  | some n ↦ TooLong n
-  | none ↦ cond (ltb p.head.priority e.head.priority) Older Newer
+  | Some n ↦ TooLong n
+  | None ↦ cond (ltb p.head.priority e.head.priority) Older Newer
 ]
 
 -- "the winner's values are handed on uncopied"; a stopped choice hands on none

@@ -25,7 +25,8 @@ pub struct DmxData {
     pub recv_timestamp: u64,
 }
 
-// What a direct highest-value merge answers.
+// What a direct highest-value merge answers. Here and below an enum of its own, in place of Option or Result: document 01 has
+// each answer's cases tell its number and its values.
 #[derive(Clone, Copy)]
 pub enum HtpAnswer {
     // The merged data and the number of its values.
