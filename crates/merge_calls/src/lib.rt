@@ -2,45 +2,27 @@
 
 #![tactic(auto)]
 
-ghost use Rattle.std.specs.Prelude.{◌≡◌, ◌||◌, [], ◌+◌, ◌≤◌, max, length};
+ghost use Rattle.std.specs.Prelude.{◌≡◌, [], ◌≤◌, length};
 ghost use Rattle.laws.specs.Parts.{pasted};
-ghost use Rattle.merge.specs.Merge.{mergeable, highest, blended, htp_answer, htp_output, choice, chosen};
+ghost use Rattle.merge.specs.Merge.{too_long, mergeable, highest, blended, htp_answer, htp_output, choice, chosen};
 ghost use Rattle.merge.specs.Merge.{htp_number_of, htp_values_of, htp_told, choice_number_of, choice_values_of, choice_told};
 ghost use Rattle.merge.specs.Views.{dmx};
 
 use merge::{Choice, DmxData, HtpAnswer, SourceCid, VALUES};
+use std::cmp::Ordering;
 
-// The values laid over the output from a place on; what stands around them is unchanged.
-pub fn copy_values(values: &[u8], out: &mut [u8], at: usize)
-    requires { at + length values.now ≤ length out.old }
-    ensures { out.new ≡ pasted out.old at values.now }
+// The length of a list over 513, the older's first.
+#[tactic(auto, unfolding(merge::specs::Merge::too_long))]
+fn too_long(older_values: &[u8], newer_values: &[u8]) -> Option<usize>
+    ensures { result ≡ too_long older_values.now newer_values.now }
 {
-    let mut i: usize = 0;
-    while i < values.len() {
-        out[at + i] = values[i];
-        i += 1;
+    if VALUES < older_values.len() {
+        Some(older_values.len())
+    } else if VALUES < newer_values.len() {
+        Some(newer_values.len())
+    } else {
+        None
     }
-}
-
-// The larger of two values.
-fn larger(a: u8, b: u8) -> u8
-    ensures { result ≡ max a b }
-{
-    if b < a { a } else { b }
-}
-
-// The longer of two lengths.
-fn longer(a: usize, b: usize) -> usize
-    ensures { result ≡ max a b }
-{
-    if a < b { b } else { a }
-}
-
-// Either of two flags.
-fn either(a: bool, b: bool) -> bool
-    ensures { result ≡ (a || b) }
-{
-    if a { true } else { b }
 }
 
 // The larger value at each place of the shorter list, then the longer list's tail.
@@ -49,49 +31,39 @@ fn write_highest(shorter: &[u8], longest: &[u8], out: &mut [u8])
     ensures { out.new ≡ pasted out.old 0 (highest shorter.now longest.now) }
 {
     let n = shorter.len();
-    let mut i: usize = 0;
-    while i < n {
-        out[i] = larger(shorter[i], longest[i]);
-        i += 1;
+    for i in 0..n {
+        out[i] = shorter[i].max(longest[i]);
     }
-    copy_values(&longest[n..], out, n);
+    laws::paste(out, n, &longest[n..]);
 }
 
 // Both have values, and universe, first value and address agree.
+#[tactic(auto, unfolding(merge::specs::Merge::mergeable, merge::specs::Merge::same_start))]
 fn is_mergeable(older: DmxData, older_values: &[u8], newer: DmxData, newer_values: &[u8]) -> bool
     ensures { result ≡ mergeable (dmx older older_values.now) (dmx newer newer_values.now) }
 {
-    if older_values.len() == 0 {
-        return false;
+    match (older_values, newer_values) {
+        ([first, ..], [other, ..]) => {
+            first == other && older.universe == newer.universe && older.sync_uni == newer.sync_uni
+        }
+        _ => false,
     }
-    if newer_values.len() == 0 {
-        return false;
-    }
-    if older_values[0] != newer_values[0] {
-        return false;
-    }
-    if older.universe != newer.universe {
-        return false;
-    }
-    older.sync_uni == newer.sync_uni
 }
 
-// The header of two data of equal priority: no CID, preview if either has it, the older's reading.
+// The header of two data of equal priority: no CID, preview if either has it, the rest the older's.
+#[tactic(auto, unfolding(merge::specs::Merge::blended))]
 fn blended_data(older: DmxData, newer: DmxData) -> DmxData
     ensures { result ≡ (blended (dmx older []) (dmx newer [])).head }
 {
-    let preview = either(older.preview, newer.preview);
     DmxData {
-        universe: older.universe,
-        sync_uni: older.sync_uni,
-        priority: older.priority,
         src_cid: SourceCid::Merged,
-        preview: preview,
-        recv_timestamp: older.recv_timestamp,
+        preview: older.preview || newer.preview,
+        ..older
     }
 }
 
 // Merging by highest value; the merged values go to the output.
+#[tactic(auto, using(merge::proofs::AnswersLaws::htp_told_is, merge::proofs::Laws::length_highest, crate::specs::Returns::highest_other), unfolding(merge::specs::Merge::htp_answer, merge::specs::Merge::htp_output, merge::specs::Merge::htp_merge, merge::specs::Merge::htp_with, merge::specs::Merge::joined, merge::specs::Merge::blended))]
 pub fn htp_dmx_merge(
     older: DmxData,
     older_values: &[u8],
@@ -106,39 +78,38 @@ pub fn htp_dmx_merge(
     ensures told { (htp_number_of result, htp_values_of result) ≡ htp_told (length out.old)
         (dmx older older_values.now) (dmx newer newer_values.now) }
 {
-    let n = older_values.len();
-    let m = newer_values.len();
-    if VALUES < n {
+    if let Some(n) = too_long(older_values, newer_values) {
         return HtpAnswer::TooLong(n);
     }
-    if VALUES < m {
-        return HtpAnswer::TooLong(m);
+    if !is_mergeable(older, older_values, newer, newer_values) {
+        return HtpAnswer::Refused;
     }
-    if is_mergeable(older, older_values, newer, newer_values) {
-        let needed = longer(n, m);
-        if out.len() < needed {
-            return HtpAnswer::OutputShort(needed);
-        }
-        if older.priority > newer.priority {
-            copy_values(older_values, out, 0);
-            return HtpAnswer::Merged(older, n);
-        }
-        if older.priority < newer.priority {
-            copy_values(newer_values, out, 0);
-            return HtpAnswer::Merged(newer, m);
-        }
-        let d = blended_data(older, newer);
-        if n < m {
-            write_highest(older_values, newer_values, out);
-            return HtpAnswer::Merged(d, needed);
-        }
-        write_highest(newer_values, older_values, out);
-        return HtpAnswer::Merged(d, needed);
+    let needed = older_values.len().max(newer_values.len());
+    if out.len() < needed {
+        return HtpAnswer::OutputShort(needed);
     }
-    HtpAnswer::Refused
+    match older.priority.cmp(&newer.priority) {
+        Ordering::Greater => {
+            laws::paste(out, 0, older_values);
+            HtpAnswer::Merged(older, older_values.len())
+        }
+        Ordering::Less => {
+            laws::paste(out, 0, newer_values);
+            HtpAnswer::Merged(newer, newer_values.len())
+        }
+        Ordering::Equal => {
+            if older_values.len() < newer_values.len() {
+                write_highest(older_values, newer_values, out);
+            } else {
+                write_highest(newer_values, older_values, out);
+            }
+            HtpAnswer::Merged(blended_data(older, newer), needed)
+        }
+    }
 }
 
 // The choice by priority: the older wins only by a higher one.
+#[tactic(auto, using(merge::proofs::AnswersLaws::choice_told_is), unfolding(merge::specs::Merge::choice))]
 pub fn discard_lowest_priority_then_previous(
     older: DmxData,
     older_values: &[u8],
@@ -149,21 +120,17 @@ pub fn discard_lowest_priority_then_previous(
     ensures told { (choice_number_of result, choice_values_of result)
         ≡ choice_told (dmx older older_values.now) (dmx newer newer_values.now) }
 {
-    let n = older_values.len();
-    let m = newer_values.len();
-    if VALUES < n {
-        return Choice::TooLong(n);
+    if let Some(n) = too_long(older_values, newer_values) {
+        Choice::TooLong(n)
+    } else if newer.priority < older.priority {
+        Choice::Older
+    } else {
+        Choice::Newer
     }
-    if VALUES < m {
-        return Choice::TooLong(m);
-    }
-    if newer.priority < older.priority {
-        return Choice::Older;
-    }
-    Choice::Newer
 }
 
 // The winner's values, uncopied: a part of one of the two lent lists.
+#[tactic(auto, unfolding(merge::specs::Merge::chosen))]
 pub fn chosen_values<'a>(c: Choice, older_values: &'a [u8], newer_values: &'a [u8]) -> &'a [u8]
     ensures { result.now ≡ chosen c older_values.now newer_values.now }
 {

@@ -13,15 +13,14 @@ pub loop-i-preserved : goal.loop-i-preserved
 loop-i-preserved c =
     let l = c.loop-i in
     let v = c.args in
-    (omega arith, refl, simp length-set l.invariant.2, highest_turn v.shorter.now v.longest.now l.out v.out.now l.i c.larger.result (omega arith) (omega arith) (omega arith) l.invariant.3 c.larger.ensures)
+    (simp length-set l.invariant.0, highest_turn v.shorter.now v.longest.now l.out v.out.now l.i c.max.result (omega arith) (omega arith) (omega arith) l.invariant.1 c.max.ensures)
 
 pub returns : goal.returns
 returns c =
-    let b = c in
-    let l = b.loop-i in
+    let l = c.loop-i in
     let v = c.args in
     let n = length v.shorter.now in
     let e : l.i ≡ n = omega arith in
-    b.copy_values.ensures
+    c.paste.ensures
     ∙ ap (λ (x : List ℕ). pasted l.out n x) (part_rest v.longest.now n)
-    ∙ highest_laid v.shorter.now v.longest.now l.out v.out.now n refl (omega arith) (omega arith) (rw e at l.invariant.3)
+    ∙ highest_laid v.shorter.now v.longest.now l.out v.out.now n refl (omega arith) (omega arith) (rw e at l.invariant.1)
