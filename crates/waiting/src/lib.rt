@@ -8,7 +8,8 @@ ghost use Rattle.waiting.specs.Records.{most_bytes};
 
 use merge::VALUES;
 
-// What storing answers.
+// What storing answers. Here and below an enum of its own, in place of Result: document 01 has each answer's cases tell its number and
+// its values.
 #[derive(Clone, Copy)]
 pub enum StoreAnswer {
     Stored,
