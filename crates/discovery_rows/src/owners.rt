@@ -2,52 +2,45 @@
 ghost use Rattle.std.specs.Prelude.{◌≡◌, ◌≤◌, length, take};
 ghost use Rattle.discovery.specs.Discovery.{capacity};
 ghost use Rattle.discovery_rows.specs.Store.{owner};
-ghost use Rattle.discovery_rows.specs.Rows.{owned, total, Few};
+ghost use Rattle.discovery_rows.specs.Rows.{cid_at, owned, total, Few};
 
-use crate::{HeadRow, PageRow, PageRows};
+use crate::PageRows;
 use rules::Cid;
 
 // The owner is this one.
 pub fn is_owner(mark: u64, cid: Cid, kind: u64, source: Cid) -> bool
     ensures { result ≡ owner kind source mark cid }
 {
-    if mark != kind {
-        return false;
+    mark == kind && cid.is_same(source)
+}
+
+// The CID in a row of sources or pages: its second word and its third.
+pub fn cid_of<const N: usize>(row: &[u64; N]) -> Cid
+    requires { 3 ≤ N }
+    ensures { result ≡ cid_at row.now }
+{
+    Cid {
+        hi: row[1],
+        lo: row[2],
     }
-    cid.is_same(source)
 }
 
-pub fn is_source_of(row: HeadRow, mark: u64, cid: Cid) -> bool
-    ensures { result ≡ owned mark cid row }
+// A row of sources or pages has this owner.
+pub fn is_owned<const N: usize>(row: &[u64; N], mark: u64, cid: Cid) -> bool
+    requires { 3 ≤ N }
+    ensures { result ≡ owned mark cid row.now }
 {
-    let own = Cid {
-        hi: row[1],
-        lo: row[2],
-    };
-    is_owner(row[0], own, mark, cid)
-}
-
-pub fn is_page_of(row: PageRow, mark: u64, cid: Cid) -> bool
-    ensures { result ≡ owned mark cid row }
-{
-    let own = Cid {
-        hi: row[1],
-        lo: row[2],
-    };
-    is_owner(row[0], own, mark, cid)
+    is_owner(row[0], cid_of(row), mark, cid)
 }
 
 // Where the universes of the page at place at begin.
 pub fn offset(pages: &PageRows, at: usize) -> usize
-    requires { (at ≤ capacity) × (length pages.now ≡ capacity) × Few (take at pages.now) }
+    requires { (at ≤ capacity) × Few (take at pages.now) }
     ensures { result ≡ total (take at pages.now) }
 {
-    let mut sum: usize = 0;
-    let mut i = 0;
-    while i < at {
-        let row = pages[i];
+    let mut sum = 0;
+    for row in &pages[..at] {
         sum += row[4] as usize;
-        i += 1;
     }
     sum
 }

@@ -1,50 +1,28 @@
 -- The rows passed are turned, the others as they were.
 -- Assumes nothing.
-use mathlib.Core.Path.{◌≡◌, sym, ap, ◌∙◌}
-use mathlib.Core.Bool.{true, false}
-use mathlib.Core.List.{List, ◌++◌, ◌∷◌, [], map}
-use Prim.Native.Nat.{ℕ}
-use native.Mathlib.Omega.{arith}
-use lib.ListN.{length, take, get_or, length-set}
-use Rattle.discovery_rows.specs.Rows.{owned, turned_row, taken_more, map_more}
-use Rattle.discovery_rows.specs.Walks.{pushed, further_read, further, read_first}
-use Rattle.discovery.specs.Discovery.{capacity}
+use Rattle.std.proofs.Common.{◌≡◌, true, false, List, ℕ, [], ◌∷◌, take, get_or, set, sym, ◌∙◌, arith}
+use Rattle.std.proofs.lemmas.List.{get_or_default}
+use Rattle.std.proofs.lemmas.List.Edits.{map_over_more}
+use Rattle.rules.specs.declared.Cid.{Cid}
+use Rattle.discovery_rows.specs.Rows.{owned, turned_row}
 use Rattle.discovery_rows.proofs.rows.turn_pages.Goals as goal
+use Rattle.discovery_rows.proofs.rows.turn_pages.Goals.{then-is_owned, else-is_owned}
 
-pub loop-i-preserved-then-is_page_of : goal.loop-i-preserved-then-is_page_of
-loop-i-preserved-then-is_page_of c =
-    let w = c.loop-i in
-    let s = c in
-    let a = s.args.pages.now in
-    let l : length a ≡ capacity = s.requires.1 in
-    let row = get_or w.pages w.i [] in
-    let t : owned 0 s.args.cid row ≡ true = sym c.is_page_of.ensures ∙ c.if-is_page_of.true in
-    let e : row ≡ get_or a w.i [] = read_first w.pages a w.i [] w.invariant.3 in
-    let new : List ℕ = 1 ∷ get_or row 1 0 ∷ get_or row 2 0 ∷ get_or row 3 0 ∷ get_or row 4 0 ∷ [] in
-    let x : new ≡ turned_row s.args.cid row = rw t in (
-      omega arith,
-      simp length-set w.invariant.1,
-      pushed w.pages (map (turned_row s.args.cid) (take w.i a)) w.i new (omega arith) w.invariant.2
-          ∙ ap (λ (y : List ℕ). map (turned_row s.args.cid) (take w.i a) ++ y ∷ []) (x ∙ ap (turned_row s.args.cid) e)
-          ∙ sym (map_more (turned_row s.args.cid) a w.i [] (omega arith)),
-      further w.pages a w.i w.i new (omega arith) w.invariant.3,
-    )
+-- an owner's row is turned
+new : (c : Cid) (items : List (List ℕ)) (i : ℕ) → owned 0 c (get_or items i []) ≡ true
+    → set items i (1 ∷ get_or (get_or items i []) 1 0 ∷ get_or (get_or items i []) 2 0 ∷ get_or (get_or items i []) 3 0 ∷ get_or (get_or items i []) 4 0 ∷ []) ≡ set items i (turned_row c (get_or items i []))
+new c items i t = rw t
 
-pub loop-i-preserved : goal.loop-i-preserved
-loop-i-preserved c =
-    let w = c.loop-i in
-    let s = c in
-    let a = s.args.pages.now in
-    let l : length a ≡ capacity = s.requires.1 in
-    let row = get_or w.pages w.i [] in
-    let t : owned 0 s.args.cid row ≡ false = sym c.is_page_of.ensures ∙ c.if-is_page_of.false in
-    let e : row ≡ get_or a w.i [] = read_first w.pages a w.i [] w.invariant.3 in
-    let x : row ≡ turned_row s.args.cid row = rw t in (
-      omega arith,
-      w.invariant.1,
-      taken_more w.pages w.i [] (omega arith)
-          ∙ ap (λ (y : List (List ℕ)). y ++ row ∷ []) w.invariant.2
-          ∙ ap (λ (y : List ℕ). map (turned_row s.args.cid) (take w.i a) ++ y ∷ []) (x ∙ ap (turned_row s.args.cid) e)
-          ∙ sym (map_more (turned_row s.args.cid) a w.i [] (omega arith)),
-      further_read w.pages a w.i w.invariant.3,
-    )
+-- another's stays
+old : (c : Cid) (items : List (List ℕ)) (i : ℕ) → owned 0 c (get_or items i []) ≡ false → set items i (get_or items i []) ≡ set items i (turned_row c (get_or items i []))
+old c items i t = rw t
+
+pub loop-row-preserved : goal.loop-row-preserved
+loop-row-preserved c =
+    let l = c.loop-row in
+    let row = get_or l.row-items l.row-index [] in
+    let more = map_over_more (turned_row c.args.cid) (take c.args.count c.args.pages.now) l.row-items l.row-index row c.loop-row-test.true l.invariant (get_or_default l.row-items l.row-index [] row (omega arith)) in
+    elim c.if-is_owned.branch [
+      | then-is_owned w ↦ w.row-items-is ∙ new c.args.cid l.row-items l.row-index (sym c.is_owned.ensures ∙ w.if-is_owned.true) ∙ more
+      | else-is_owned w ↦ w.row-items-is ∙ old c.args.cid l.row-items l.row-index (sym c.is_owned.ensures ∙ w.if-is_owned.false) ∙ more
+    ]
