@@ -1,12 +1,27 @@
 -- Numbers as bytes, most significant first ('big-endian' in document 01), and the order of byte strings.
 -- Assumes nothing.
 use Rattle.std.specs.Prelude.{◌≡◌, ℕ, zero, suc, ◌+◌, ◌*◌, ◌/◌, ◌%◌, ◌^◌, ◌<◌, ◌≤◌, true, false, cond, ltb, List, [], ◌∷◌, ◌++◌, reverse, length, take, drop, nat_lt, slice_index, refl}
-use Rattle.std.proofs.Common.{sym, ap, ◌∙◌, arith, mul-le-mul_right, suc-mul, le_of_lt, pow-suc, mod-lt, mod-eq_of_lt, add-mul, mul_assoc, mul_comm, div-add-mod', ltb-true, ltb-false, lt-ltb, le-ltb}
+use Rattle.std.proofs.Common.{sym, ap, ◌∙◌, arith, mul-le-mul_right, suc-mul, le_of_lt, pow-suc, mod-lt, mod-eq_of_lt, add-mul, mul_assoc, mul_comm, div-add-mod', ltb-true, ltb-false, lt-ltb, le-ltb, div-one}
+use Rattle.std.specs.Int.{w64, from_be_bytes, to_be_bytes, swap_bytes}
 use mathlib.Core.List.{reverse_aux, reverse-reverse}
 use Rattle.std.proofs.Math.Nat.{pow-succ', mod-one, div-div-eq-div-mul}
 use Rattle.std.proofs.lemmas.List.{length-reverse}
 use Rattle.laws.specs.Cases.{split}
 use Rattle.rules.specs.Bytes.{Bytes, big_endian, bytes_before, number, turned_of}
+
+-- ── the library's words ──
+-- the number of eight bytes, and those of a word
+pub number_word : (a b c d e f g h : ℕ) → from_be_bytes w64 (a ∷ b ∷ c ∷ d ∷ e ∷ f ∷ g ∷ h ∷ []) ≡ number (a ∷ b ∷ c ∷ d ∷ e ∷ f ∷ g ∷ h ∷ [])
+unfolding number
+number_word a b c d e f g h = omega arith
+
+pub bytes_word : (w : ℕ) → to_be_bytes w64 w ≡ big_endian 8 w
+unfolding big_endian
+bytes_word w = simp div-one
+
+pub turned_word : (w : ℕ) → swap_bytes w64 w ≡ turned_of w
+unfolding big_endian
+turned_word w = simp div-one (number_word _ _ _ _ _ _ _ _)
 
 -- ── laws ──
 -- eight bytes of a list, one by one

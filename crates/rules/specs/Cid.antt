@@ -22,7 +22,7 @@ before a b = before_by nat_lt nat_lt (λ (c : Cid). c.hi) (λ (c : Cid). c.lo) a
 
 -- ── CIDs and their bytes ──
 -- Document 02, F-5: "Compare two CIDs as two eight-byte words, most significant first .. Equality and order of CIDs keep their meaning":
--- that of their sixteen bytes. `from_bytes` returns `cidOf`, `to_bytes` returns `cidBytes`.
+-- that of their sixteen bytes. `from_bytes` returns `cid_of`, `to_bytes` returns `cid_bytes`.
 
 -- a test that holds exactly when something is so
 abbrev pub Exactly : Bool → Type 0 → Type 0

@@ -17,14 +17,14 @@ pub struct DataSequence(pub u8);
 #[derive(Clone, Copy)]
 pub struct SyncSequence(pub u8);
 
-// A source's 16 bytes as two words, most significant first.
-#[derive(Clone, Copy)]
+// A source's 16 bytes as two words, most significant first; the derived order is by `hi`, then by `lo`.
+#[derive(Clone, Copy, PartialEq, Eq, PartialOrd, Ord)]
 pub struct Cid {
     pub hi: u64,
     pub lo: u64,
 }
 
-// The universes that data and synchronisation may use.
+// The universes that data and synchronisation may use. The ranges are the rule's own, in its order (document 01, 'Number rules').
 pub fn is_universe_in_range(universe: u16) -> bool
     ensures { result ≡ legal universe }
 {
@@ -41,30 +41,21 @@ pub fn is_universe_in_range(universe: u16) -> bool
 pub fn read_signed(d: u8) -> i8
     ensures { result ≡ signed d }
 {
-    if d < 128 {
-        return d as i8;
-    }
-    let below = d as i16 - 256;
-    below as i8
+    d.cast_signed()
 }
 
 // Arriving minus last, modulo 256 and read as signed.
 pub fn sequence_difference(arriving: u8, last: u8) -> i8
     ensures { result ≡ difference arriving last }
 {
-    let d = std::num::wrapping_sub_u8(arriving, last);
-    read_signed(d)
+    read_signed(arriving.wrapping_sub(last))
 }
 
 // A difference without its sign, 0 to 128.
 pub fn magnitude(d: i8) -> u8
     ensures { result ≡ unsigned_abs d }
 {
-    if d < 0 {
-        let m = -1 - d;
-        return m as u8 + 1;
-    }
-    d as u8
+    d.unsigned_abs()
 }
 
 // What the sequence rule answers (document 02, F-4).
@@ -93,7 +84,7 @@ pub fn sequence_answer(d: i8) -> SequenceAnswer
 pub fn age_of(now: u64, reading: u64) -> u64
     ensures { result ≡ age now reading }
 {
-    if now < reading { 0 } else { now - reading }
+    now.saturating_sub(reading)
 }
 
 // As old as the given time, or older.
@@ -112,91 +103,46 @@ pub fn is_expired(now: u64, reading: u64) -> bool
     has_aged(E131_NETWORK_DATA_LOSS_TIMEOUT, now, reading)
 }
 
-// Eight bytes as a word, most significant first.
-pub fn word(b0: u8, b1: u8, b2: u8, b3: u8, b4: u8, b5: u8, b6: u8, b7: u8) -> u64
-    ensures { result ≡ number (b0 ∷ b1 ∷ b2 ∷ b3 ∷ b4 ∷ b5 ∷ b6 ∷ b7 ∷ []) }
-{
-    (b0 as u64) * 0x100_0000_0000_0000
-        + (b1 as u64) * 0x1_0000_0000_0000
-        + (b2 as u64) * 0x100_0000_0000
-        + (b3 as u64) * 0x1_0000_0000
-        + (b4 as u64) * 0x100_0000
-        + (b5 as u64) * 0x1_0000
-        + (b6 as u64) * 0x100
-        + (b7 as u64)
-}
-
-// A word with its bytes the other way round. Listed from the lowest on they are stored at once, where those of the
-// word, listed from the highest on, are stored one by one.
+// A word with its bytes the other way round.
+#[tactic(auto, using(crate::proofs::BytesLaws::turned_word))]
 pub fn turned(h: u64) -> u64
     ensures { result ≡ turned_of h }
 {
-    word(
-        (h % 256) as u8,
-        (h / 0x100 % 256) as u8,
-        (h / 0x1_0000 % 256) as u8,
-        (h / 0x100_0000 % 256) as u8,
-        (h / 0x1_0000_0000 % 256) as u8,
-        (h / 0x100_0000_0000 % 256) as u8,
-        (h / 0x1_0000_0000_0000 % 256) as u8,
-        (h / 0x100_0000_0000_0000 % 256) as u8,
-    )
+    h.swap_bytes()
 }
 
 impl Cid {
     pub fn from_bytes(b: [u8; 16]) -> Cid
         ensures { result ≡ cid_of b }
     {
-        let hi = word(b[0], b[1], b[2], b[3], b[4], b[5], b[6], b[7]);
-        let lo = word(b[8], b[9], b[10], b[11], b[12], b[13], b[14], b[15]);
-        Cid { hi, lo }
+        Cid {
+            hi: u64::from_be_bytes([b[0], b[1], b[2], b[3], b[4], b[5], b[6], b[7]]),
+            lo: u64::from_be_bytes([b[8], b[9], b[10], b[11], b[12], b[13], b[14], b[15]]),
+        }
     }
 
+    #[tactic(auto, using(crate::proofs::BytesLaws::bytes_word), unfolding(crate::specs::Bytes::big_endian))]
     pub fn to_bytes(self) -> [u8; 16]
         ensures { result ≡ cid_bytes self }
     {
-        let hi = turned(self.hi);
-        let lo = turned(self.lo);
-        [
-            (hi % 256) as u8,
-            (hi / 0x100 % 256) as u8,
-            (hi / 0x1_0000 % 256) as u8,
-            (hi / 0x100_0000 % 256) as u8,
-            (hi / 0x1_0000_0000 % 256) as u8,
-            (hi / 0x100_0000_0000 % 256) as u8,
-            (hi / 0x1_0000_0000_0000 % 256) as u8,
-            (hi / 0x100_0000_0000_0000 % 256) as u8,
-            (lo % 256) as u8,
-            (lo / 0x100 % 256) as u8,
-            (lo / 0x1_0000 % 256) as u8,
-            (lo / 0x100_0000 % 256) as u8,
-            (lo / 0x1_0000_0000 % 256) as u8,
-            (lo / 0x100_0000_0000 % 256) as u8,
-            (lo / 0x1_0000_0000_0000 % 256) as u8,
-            (lo / 0x100_0000_0000_0000 % 256) as u8,
-        ]
+        let mut bytes = [0; 16];
+        bytes[..8].copy_from_slice(&self.hi.to_be_bytes());
+        bytes[8..].copy_from_slice(&self.lo.to_be_bytes());
+        bytes
     }
 
-    // Whether the sixteen bytes are the same (law same-words).
+    // Whether the sixteen bytes are the same (law same_words).
     pub fn is_same(self, other: Cid) -> bool
         ensures { result ≡ same self other }
     {
-        if self.hi != other.hi {
-            return false;
-        }
-        self.lo == other.lo
+        self == other
     }
 
-    // The order of the sixteen bytes (law before-words). Less is asked first: most rows that a walk meets are (decision 22).
+    // The order of the sixteen bytes (law before_words).
+    #[tactic(auto, unfolding(laws::specs::Order::before_by))]
     pub fn is_before(self, other: Cid) -> bool
         ensures { result ≡ before self other }
     {
-        if self.hi < other.hi {
-            return true;
-        }
-        if other.hi < self.hi {
-            return false;
-        }
-        self.lo < other.lo
+        self < other
     }
 }

@@ -2,7 +2,7 @@
 -- Assumes nothing.
 use Rattle.std.proofs.Common.{◌≡◌, ℕ, List, [], ◌∷◌, length, get_or, drop, sym, ap, ◌∙◌, arith, length-drop, get_or-drop, take_all, rules}
 use Rattle.rules.specs.Bytes.{number}
-use Rattle.rules.proofs.BytesLaws.{eight}
+use Rattle.rules.proofs.BytesLaws.{eight, number_word}
 use Rattle.rules.proofs.Cid.from_bytes.Goals as goal
 
 -- the last eight of sixteen
@@ -17,6 +17,6 @@ pub returns : goal.returns
 returns c =
     let b = c.args.b in
     let l : length b ≡ 16 = search rules in
-    let e = c.word-hi.ensures ∙ ap number (sym (eight b (omega arith))) in
-    let f = c.word-lo.ensures ∙ ap number (low b l) in
+    let e = c.from_be_bytes.ensures ∙ number_word _ _ _ _ _ _ _ _ ∙ ap number (sym (eight b (omega arith))) in
+    let f = c.from_be_bytes-2.ensures ∙ number_word _ _ _ _ _ _ _ _ ∙ ap number (low b l) in
     λ i. record { hi = e i; lo = f i }
