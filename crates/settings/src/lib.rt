@@ -3,7 +3,7 @@
 #![tactic(auto)]
 
 ghost use Rattle.std.specs.Prelude.{◌≡◌};
-ghost use Rattle.settings.specs.Settings.{fresh, with_preview, with_discovery, with_termination, with_timeout, with_merge, without_limit, limited, in_range, expiring, Keeps, Proper};
+ghost use Rattle.settings.specs.Settings.{fresh, with_preview, with_discovery, with_termination, with_timeout, with_merge, without_limit, limited, in_range, expiring, kept, Keeps, Proper};
 
 // How a packet joins the data that waits for its universe.
 #[derive(Clone, Copy)]
@@ -31,31 +31,20 @@ pub struct Settings {
     pub discovery_expiry: u32,
 }
 
-// What a setter that can refuse answers.
-#[derive(Clone, Copy)]
-pub enum SettingAnswer {
-    Set,
+// Why a setter refuses.
+#[derive(Clone, Copy, PartialEq, Eq)]
+pub enum SettingError {
     // Number 14: a limit of 0.
     LimitZero,
     // Number 20: an expiry under 2,500 or over 60,000.
     ExpiryOutOfRange,
 }
 
-// What a setter that can refuse leaves and answers.
-#[derive(Clone, Copy)]
-pub struct Adjusted {
-    pub settings: Settings,
-    pub answer: SettingAnswer,
-}
-
 // Whether the discovery expiry may be set to this.
 pub fn is_expiry_in_range(expiry: u32) -> bool
     ensures { result ≡ in_range expiry }
 {
-    match expiry {
-        2500..=60000 => true,
-        _ => false,
-    }
+    (2500..=60000).contains(&expiry)
 }
 
 impl Settings {
@@ -79,51 +68,49 @@ impl Settings {
         ensures value { result ≡ with_preview on self }
         ensures proper { Keeps self result }
     {
-        let mut s = self;
-        s.process_preview_data = on;
-        s
+        Settings {
+            process_preview_data: on,
+            ..self
+        }
     }
 
     pub fn set_announce_source_discovery(self, on: bool) -> Settings
         ensures value { result ≡ with_discovery on self }
         ensures proper { Keeps self result }
     {
-        let mut s = self;
-        s.announce_source_discovery = on;
-        s
+        Settings {
+            announce_source_discovery: on,
+            ..self
+        }
     }
 
     pub fn set_announce_stream_termination(self, on: bool) -> Settings
         ensures value { result ≡ with_termination on self }
         ensures proper { Keeps self result }
     {
-        let mut s = self;
-        s.announce_stream_termination = on;
-        s
+        Settings {
+            announce_stream_termination: on,
+            ..self
+        }
     }
 
     pub fn set_announce_timeout(self, on: bool) -> Settings
         ensures value { result ≡ with_timeout on self }
         ensures proper { Keeps self result }
     {
-        let mut s = self;
-        s.announce_timeout = on;
-        s
+        Settings {
+            announce_timeout: on,
+            ..self
+        }
     }
 
     pub fn set_merge(self, choice: MergeChoice) -> Settings
         ensures value { result ≡ with_merge choice self }
         ensures proper { Keeps self result }
     {
-        let limit = self.source_limit;
         Settings {
-            process_preview_data: self.process_preview_data,
-            announce_source_discovery: self.announce_source_discovery,
-            announce_stream_termination: self.announce_stream_termination,
-            announce_timeout: self.announce_timeout,
             merge: choice,
-            source_limit: limit,
-            discovery_expiry: self.discovery_expiry,
+            ..self
         }
     }
 
@@ -131,62 +118,37 @@ impl Settings {
         ensures value { result ≡ without_limit self }
         ensures proper { Keeps self result }
     {
-        let merge = self.merge;
         Settings {
-            process_preview_data: self.process_preview_data,
-            announce_source_discovery: self.announce_source_discovery,
-            announce_stream_termination: self.announce_stream_termination,
-            announce_timeout: self.announce_timeout,
-            merge: merge,
             source_limit: SourceLimit::Unlimited,
-            discovery_expiry: self.discovery_expiry,
+            ..self
         }
     }
 
     // A limit of 0 is refused and changes nothing.
-    pub fn set_source_limit(self, limit: u16) -> Adjusted
+    pub fn set_source_limit(self, limit: u16) -> Result<Settings, SettingError>
         ensures value { result ≡ limited limit self }
-        ensures proper { Keeps self result.settings }
+        ensures proper { Keeps self (kept result self) }
     {
         if limit == 0 {
-            return Adjusted {
-                settings: self,
-                answer: SettingAnswer::LimitZero,
-            };
+            return Err(SettingError::LimitZero);
         }
-        let merge = self.merge;
-        let next = Settings {
-            process_preview_data: self.process_preview_data,
-            announce_source_discovery: self.announce_source_discovery,
-            announce_stream_termination: self.announce_stream_termination,
-            announce_timeout: self.announce_timeout,
-            merge: merge,
+        Ok(Settings {
             source_limit: SourceLimit::AtMost(limit),
-            discovery_expiry: self.discovery_expiry,
-        };
-        Adjusted {
-            settings: next,
-            answer: SettingAnswer::Set,
-        }
+            ..self
+        })
     }
 
     // An expiry out of range is refused and changes nothing.
-    pub fn set_discovery_expiry(self, expiry: u32) -> Adjusted
+    pub fn set_discovery_expiry(self, expiry: u32) -> Result<Settings, SettingError>
         ensures value { result ≡ expiring expiry self }
-        ensures proper { Keeps self result.settings }
+        ensures proper { Keeps self (kept result self) }
     {
-        if is_expiry_in_range(expiry) {
-            let mut s = self;
-            s.discovery_expiry = expiry;
-            return Adjusted {
-                settings: s,
-                answer: SettingAnswer::Set,
-            };
+        if !is_expiry_in_range(expiry) {
+            return Err(SettingError::ExpiryOutOfRange);
         }
-        let settings = self;
-        Adjusted {
-            settings,
-            answer: SettingAnswer::ExpiryOutOfRange,
-        }
+        Ok(Settings {
+            discovery_expiry: expiry,
+            ..self
+        })
     }
 }
