@@ -1,6 +1,6 @@
 -- What a finding says of the lengths that were tested.
 -- Assumes nothing.
-use Rattle.std.specs.Prelude.{◌≡◌, refl, List, ◌⊎◌, ℕ, ◌≤◌, ltb, length}
+use Rattle.std.specs.Prelude.{◌≡◌, refl, List, ◌⊎◌, ℕ, ◌≤◌, ltb, length, Ok, Err}
 use Rattle.std.proofs.Common.{sym, ap, ◌∙◌, inl, inr, arith, ltb-false}
 use Rattle.std.proofs.Math.Option.{Option, none, some}
 use Rattle.laws.specs.Cases.{split, missing}
@@ -9,32 +9,31 @@ use Rattle.merge.specs.Merge.{most_values}
 use Rattle.discovery.specs.Discovery.{Announcement, most_name, most_universes}
 use Rattle.model.specs.Packet.{DataPacket, SyncPacket, data_packet, sync_packet, discovery_packet, too_long, over as longer}
 use Rattle.model.specs.Step.{short}
-use Rattle.lengths.specs.declared.Measured.{Measured}
-use Rattle.lengths.specs.declared.Measured.TheVariants as measured
-use Rattle.lengths.specs.Space.{shortage, excess}
+use Rattle.lengths.specs.declared.LengthError.TheVariants as refused
+use Rattle.lengths.specs.Space.{Measured, shortage, excess}
 
 -- the length that a packet's own parts gave
 abbrev pub long_of : Measured → Option ℕ
-long_of measured.Fits = none
-long_of (measured.TooLong n) = some n
-long_of (measured.TooShort n) = none
+long_of (Ok fits) = none
+long_of (Err (refused.TooLong n)) = some n
+long_of (Err (refused.TooShort n)) = none
 
-pub short_of : (x : Measured) (o : Option ℕ) (n : ℕ) → x ≡ shortage o → x ≡ measured.TooShort n → o ≡ some n
+pub short_of : (x : Measured) (o : Option ℕ) (n : ℕ) → x ≡ shortage o → x ≡ Err (refused.TooShort n) → o ≡ some n
 short_of x none n e f = let z : ◌≡◌ {A = ℕ} 0 1 = cc in absurd (omega arith)
 short_of x (some k) n e f = let z : k ≡ n = cc in ap {B = Option ℕ} some z
 
 -- by the places of the cases in the enum, as a test tells them
 module _ (tag : Measured → ℕ) where
-  pub not_short : ((n : ℕ) → tag (measured.TooShort n) ≡ 2) → (x : Measured) (o : Option ℕ) → x ≡ shortage o → (tag x ≡ 0) ⊎ (tag x ≡ 1) → o ≡ none
+  pub not_short : ((n : ℕ) → tag (Err (refused.TooShort n)) ≡ 2) → (x : Measured) (o : Option ℕ) → x ≡ shortage o → (tag x ≡ 0) ⊎ (tag x ≡ 1) → o ≡ none
   not_short t x none e k = refl
   not_short t x (some n) e (inl k) = let z : ◌≡◌ {A = ℕ} 2 0 = sym (ap tag e ∙ t n) ∙ k in absurd (omega arith)
   not_short t x (some n) e (inr k) = let z : ◌≡◌ {A = ℕ} 2 1 = sym (ap tag e ∙ t n) ∙ k in absurd (omega arith)
 
-  pub not_long : ((n : ℕ) → tag (measured.TooLong n) ≡ 1) → (x : Measured) → (tag x ≡ 0) ⊎ (tag x ≡ 2) → long_of x ≡ none
-  not_long t measured.Fits k = refl
-  not_long t (measured.TooLong n) (inl k) = let z : ◌≡◌ {A = ℕ} 1 0 = sym (t n) ∙ k in absurd (omega arith)
-  not_long t (measured.TooLong n) (inr k) = let z : ◌≡◌ {A = ℕ} 1 2 = sym (t n) ∙ k in absurd (omega arith)
-  not_long t (measured.TooShort n) k = refl
+  pub not_long : ((n : ℕ) → tag (Err (refused.TooLong n)) ≡ 1) → (x : Measured) → (tag x ≡ 0) ⊎ (tag x ≡ 2) → long_of x ≡ none
+  not_long t (Ok fits) k = refl
+  not_long t (Err (refused.TooLong n)) (inl k) = let z : ◌≡◌ {A = ℕ} 1 0 = sym (t n) ∙ k in absurd (omega arith)
+  not_long t (Err (refused.TooLong n)) (inr k) = let z : ◌≡◌ {A = ℕ} 1 2 = sym (t n) ∙ k in absurd (omega arith)
+  not_long t (Err (refused.TooShort n)) k = refl
 
 -- what a store that is long enough says of its length
 pub room_for : (needed room : ℕ) → short needed room ≡ none → needed ≤ room
