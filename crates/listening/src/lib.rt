@@ -2,12 +2,13 @@
 
 #![tactic(auto)]
 
-ghost use Rattle.std.specs.Prelude.{◌≡◌, [], ◌∷◌, ◌+◌, ◌-◌, ◌≤◌, ◌<◌, length, take, ltb};
-ghost use Rattle.laws.specs.Place.{place, insert_at, remove_at};
-ghost use Rattle.model.specs.State.{itself, listens};
-ghost use Rattle.listening.specs.View.{Kept, listened_of, listened, spot_of, illegal_of, Stands, Fresh, Joins, Listens, Mutes};
-ghost use Rattle.model.specs.Step.{most_listened, illegal, joined_by};
+ghost use Rattle.std.specs.Prelude.{◌≡◌, [], ◌∷◌, take, find, not};
+ghost use Rattle.rules.specs.Universe.{legal};
+ghost use Rattle.model.specs.State.{listens};
+ghost use Rattle.listening.specs.View.{Kept, listened_of, listened, spot_of, Stands, Fresh, Joins, Listens, Mutes};
+ghost use Rattle.model.specs.Step.{joined_by};
 
+use laws::{After, insert_at, remove_at};
 use model::{ListenAnswer, MuteAnswer};
 use rules::is_universe_in_range;
 
@@ -26,159 +27,55 @@ pub struct Listened {
     pub count: usize,
 }
 
-// What `listen_universes` leaves and answers.
-#[derive(Clone, Copy)]
-pub struct ListenDone {
-    pub listened: Listened,
-    pub answer: ListenAnswer,
-}
-
-// What `mute_universe` leaves and answers.
-#[derive(Clone, Copy)]
-pub struct MuteDone {
-    pub listened: Listened,
-    pub answer: MuteAnswer,
-}
-
-// Where a universe stands, or where it would be put in.
-#[derive(Clone, Copy)]
-enum Spot {
-    Taken(usize),
-    Free(usize),
-}
-
-// The count after universes were put in, or no room for them.
-#[derive(Clone, Copy)]
-enum Joined {
-    Count(usize),
-    Full,
-}
-
-// The first illegal universe, if there is one.
-#[derive(Clone, Copy)]
-enum Illegal {
-    First(u16),
-    Nothing,
-}
-
-// How many of the first n universes are below this one, by halving.
-fn place_of(rows: &ListenedUniverses, n: usize, universe: u16) -> usize
-    requires { Kept (listened n) rows.now }
-    ensures { (result ≤ n) × (result ≡ place ltb itself universe (take n rows.now)) }
-{
-    let mut low: usize = 0;
-    let mut high = n;
-    while low < high {
-        let middle = low + (high - low) / 2;
-        let own = rows[middle];
-        if own < universe {
-            low = middle + 1;
-        } else {
-            high = middle;
-        }
-    }
-    low
-}
-
 // Where this universe stands among the first n, or would be put in.
-fn find(rows: &ListenedUniverses, n: usize, universe: u16) -> Spot
+fn find(rows: &ListenedUniverses, n: usize, universe: u16) -> Result<usize, usize>
     requires { Kept (listened n) rows.now }
     ensures { result ≡ spot_of universe (take n rows.now) }
 {
-    let i = place_of(rows, n, universe);
-    if i < n {
-        let own = rows[i];
-        if own == universe {
-            return Spot::Taken(i);
-        }
-        return Spot::Free(i);
-    }
-    Spot::Free(i)
+    rows[..n].binary_search(&universe)
 }
 
-// One universe more, before place at.
-fn insert(rows: &mut ListenedUniverses, n: usize, at: usize, universe: u16)
-    requires { (n < most_listened) × (at ≤ n) × (length rows.old ≡ most_listened) }
-    ensures { (length rows.new ≡ most_listened) × (take (n + 1) rows.new ≡ insert_at at universe (take n rows.old)) }
-{
-    let mut carried = universe;
-    let mut i = at;
-    while i < n {
-        let old = rows[i];
-        rows[i] = carried;
-        carried = old;
-        i += 1;
-    }
-    rows[n] = carried;
-}
-
-// The universe at place at taken out of the first n.
-fn remove(rows: &mut ListenedUniverses, n: usize, at: usize)
-    requires { (n ≤ most_listened) × (at < n) × (length rows.old ≡ most_listened) }
-    ensures { (length rows.new ≡ most_listened) × (take (n - 1) rows.new ≡ remove_at at (take n rows.old)) }
-{
-    let last = n - 1;
-    let mut to = at;
-    while to < last {
-        let row = rows[to + 1];
-        rows[to] = row;
-        to += 1;
-    }
-}
-
-// A universe put in, unless it stands there; without room for it, nothing changes.
-fn join(rows: &mut ListenedUniverses, n: usize, universe: u16) -> Joined
+// A universe put in, unless it stands there; without room for it, nothing changes. Answers the count.
+fn join(rows: &mut ListenedUniverses, n: usize, universe: u16) -> Option<usize>
     requires { Kept (listened n) rows.old }
     ensures { Joins universe n rows.old result rows.new }
 {
-    let Spot::Free(at) = find(&*rows, n, universe) else {
-        return Joined::Count(n);
+    let Err(at) = find(rows, n, universe) else {
+        return Some(n);
     };
     if n < LISTENED {
-        insert(&mut *rows, n, at, universe);
-        return Joined::Count(n + 1);
+        insert_at(rows, n, at, universe);
+        Some(n + 1)
+    } else {
+        None
     }
-    Joined::Full
 }
 
 // Universes put in one by one, until one finds no room.
-fn join_all(rows: &mut ListenedUniverses, n: usize, universes: &[u16]) -> Joined
+fn join_all(rows: &mut ListenedUniverses, n: usize, universes: &[u16]) -> Option<usize>
     requires { Kept (listened n) rows.old }
     ensures { Stands result (joined_by universes.now (take n rows.old)) rows.new }
 {
     let mut count = n;
-    let mut joined: usize = 0;
-    while joined < universes.len() {
-        let universe = universes[joined];
-        let Joined::Count(m) = join(&mut *rows, count, universe) else {
-            return Joined::Full;
-        };
-        count = m;
-        joined += 1;
+    for universe in universes {
+        count = join(rows, count, *universe)?;
     }
-    Joined::Count(count)
+    Some(count)
 }
 
 // The first of the universes that is out of range.
-fn first_illegal(universes: &[u16]) -> Illegal
-    ensures { result ≡ illegal_of (illegal universes.now) }
+fn first_illegal(universes: &[u16]) -> Option<u16>
+    ensures { result ≡ find (λ u. not (legal u)) universes.now }
 {
-    let mut tested: usize = 0;
-    while tested < universes.len() {
-        let universe = universes[tested];
-        if is_universe_in_range(universe) {
-            tested += 1;
-        } else {
-            return Illegal::First(universe);
-        }
-    }
-    Illegal::Nothing
+    universes
+        .iter()
+        .copied()
+        .find(|universe| !is_universe_in_range(*universe))
 }
 
 impl Listened {
     // A fresh receiver listens to the discovery universe alone.
     pub fn new(rows: &mut ListenedUniverses) -> Listened
-        requires { length rows.old ≡ most_listened }
         ensures { Fresh result rows.new }
     {
         rows[0] = E131_DISCOVERY_UNIVERSE;
@@ -189,85 +86,96 @@ impl Listened {
         requires { Kept self rows.now }
         ensures { result ≡ listens universe (listened_of self rows.now) }
     {
-        match find(rows, self.count, universe) {
-            Spot::Taken(_) => true,
-            Spot::Free(_) => false,
-        }
+        find(rows, self.count, universe).is_ok()
     }
 
     // What a step does with a synchronisation address: `listen_universes` of one.
-    pub fn listen_universe(self, rows: &mut ListenedUniverses, universe: u16) -> ListenDone
+    pub fn listen_universe(
+        self,
+        rows: &mut ListenedUniverses,
+        universe: u16,
+    ) -> After<Listened, ListenAnswer>
         requires { Kept self rows.old }
         ensures { Listens (universe ∷ []) self rows.old result rows.new }
     {
-        if is_universe_in_range(universe) {
-            let Joined::Count(count) = join(&mut *rows, self.count, universe) else {
-                return ListenDone {
-                    listened: self,
-                    answer: ListenAnswer::ListenedFull,
-                };
-            };
-            let listened = Listened { count };
-            return ListenDone {
-                listened,
-                answer: ListenAnswer::Listening,
+        if !is_universe_in_range(universe) {
+            return After {
+                left: self,
+                answer: ListenAnswer::IllegalUniverse(universe),
             };
         }
-        ListenDone {
-            listened: self,
-            answer: ListenAnswer::IllegalUniverse(universe),
+        match join(rows, self.count, universe) {
+            Some(count) => After {
+                left: Listened { count },
+                answer: ListenAnswer::Listening,
+            },
+            None => After {
+                left: self,
+                answer: ListenAnswer::ListenedFull,
+            },
         }
     }
 
     // All are tested before any is added; they are put into a copy, which counts only if all find room.
-    pub fn listen_universes(self, rows: &mut ListenedUniverses, universes: &[u16]) -> ListenDone
+    pub fn listen_universes(
+        self,
+        rows: &mut ListenedUniverses,
+        universes: &[u16],
+    ) -> After<Listened, ListenAnswer>
         requires { Kept self rows.old }
         ensures { Listens universes.now self rows.old result rows.new }
     {
-        if let Illegal::First(universe) = first_illegal(universes) {
-            return ListenDone {
-                listened: self,
+        if let Some(universe) = first_illegal(universes) {
+            return After {
+                left: self,
                 answer: ListenAnswer::IllegalUniverse(universe),
             };
         }
         let mut trial = *rows;
-        let Joined::Count(count) = join_all(&mut trial, self.count, universes) else {
-            return ListenDone {
-                listened: self,
+        match join_all(&mut trial, self.count, universes) {
+            Some(count) => {
+                *rows = trial;
+                After {
+                    left: Listened { count },
+                    answer: ListenAnswer::Listening,
+                }
+            }
+            None => After {
+                left: self,
                 answer: ListenAnswer::ListenedFull,
-            };
-        };
-        *rows = trial;
-        let listened = Listened { count };
-        ListenDone {
-            listened,
-            answer: ListenAnswer::Listening,
+            },
         }
     }
 
     // 2 for an illegal universe, then 3 for one that isn't listened to.
-    pub fn mute_universe(self, rows: &mut ListenedUniverses, universe: u16) -> MuteDone
+    pub fn mute_universe(
+        self,
+        rows: &mut ListenedUniverses,
+        universe: u16,
+    ) -> After<Listened, MuteAnswer>
         requires { Kept self rows.old }
         ensures { Mutes universe self rows.old result rows.new }
     {
-        if is_universe_in_range(universe) {
-            let n = self.count;
-            let Spot::Taken(at) = find(&*rows, n, universe) else {
-                return MuteDone {
-                    listened: self,
-                    answer: MuteAnswer::UniverseNotRegistered(universe),
-                };
-            };
-            remove(&mut *rows, n, at);
-            let listened = Listened { count: n - 1 };
-            return MuteDone {
-                listened,
-                answer: MuteAnswer::Muted,
+        if !is_universe_in_range(universe) {
+            return After {
+                left: self,
+                answer: MuteAnswer::IllegalUniverse(universe),
             };
         }
-        MuteDone {
-            listened: self,
-            answer: MuteAnswer::IllegalUniverse(universe),
+        match find(rows, self.count, universe) {
+            Ok(at) => {
+                remove_at(rows, self.count, at);
+                After {
+                    left: Listened {
+                        count: self.count - 1,
+                    },
+                    answer: MuteAnswer::Muted,
+                }
+            }
+            Err(_) => After {
+                left: self,
+                answer: MuteAnswer::UniverseNotRegistered(universe),
+            },
         }
     }
 }

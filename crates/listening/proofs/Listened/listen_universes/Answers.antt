@@ -2,24 +2,25 @@
 -- Assumes nothing.
 use mathlib.Core.Path.{sym, subst, ◌∙◌}
 use Rattle.model.specs.Step.{illegal, joined_by}
-use Rattle.listening.specs.declared.Joined.{Joined}
+use Rattle.std.specs.Prelude as rust
+use Prim.Native.Nat.{ℕ}
 use Rattle.listening.specs.View.{listened_of, Stands}
-use Rattle.listening.specs.Laws.{first_some, nothing_none, listens_illegal, listens_full, listens_all}
+use Rattle.listening.specs.Laws.{illegal_found, first_some, nothing_none, listens_illegal, listens_full, listens_all}
 use Rattle.listening.proofs.Listened.listen_universes.Goals as goal
 
-pub returns-in-First : goal.returns-in-First
-returns-in-First c =
+pub returns-in-Some : goal.returns-in-Some
+returns-in-Some c =
     let us = c.args.universes.now in
-    listens_illegal us c.args.self c.args.rows.now c.requires c.in-First.universe (first_some (illegal us) c.in-First.universe (sym c.first_illegal.ensures ∙ c.in-First.is))
+    listens_illegal us c.args.self c.args.rows.now c.requires c.in-Some.universe (first_some (illegal us) c.in-Some.universe (illegal_found us ∙ sym c.first_illegal.ensures ∙ c.in-Some.is))
 
-pub returns-in_default-join_all : goal.returns-in_default-join_all
-returns-in_default-join_all c =
+pub returns-in-None : goal.returns-in-None
+returns-in-None c =
     let us = c.args.universes.now in
-    let o = subst (λ (r : Joined). Stands r (joined_by us (listened_of c.args.self c.args.rows.now)) c.join_all.new.rows) c.in_default-join_all.is c.join_all.ensures in
-    listens_full us c.args.self c.args.rows.now c.requires (nothing_none (illegal us) (sym c.first_illegal.ensures ∙ c.in_default.is)) o
+    let o = subst (λ (r : rust.Option ℕ). Stands r (joined_by us (listened_of c.args.self c.args.rows.now)) c.join_all.new.rows) c.in-None.is c.join_all.ensures in
+    listens_full us c.args.self c.args.rows.now c.requires (nothing_none (illegal us) (illegal_found us ∙ sym c.first_illegal.ensures ∙ c.in_default.is)) o
 
-pub returns : goal.returns
-returns c =
+pub returns-in-Some-join_all : goal.returns-in-Some-join_all
+returns-in-Some-join_all c =
     let us = c.args.universes.now in
-    let o = subst (λ (r : Joined). Stands r (joined_by us (listened_of c.args.self c.args.rows.now)) c.join_all.new.rows) c.in-Count.is c.join_all.ensures in
-    listens_all us c.args.self c.args.rows.now c.requires c.in-Count.count c.join_all.new.rows (nothing_none (illegal us) (sym c.first_illegal.ensures ∙ c.in_default.is)) o
+    let o = subst (λ (r : rust.Option ℕ). Stands r (joined_by us (listened_of c.args.self c.args.rows.now)) c.join_all.new.rows) c.in-Some-join_all.is c.join_all.ensures in
+    listens_all us c.args.self c.args.rows.now c.requires c.in-Some-join_all.count c.join_all.new.rows (nothing_none (illegal us) (illegal_found us ∙ sym c.first_illegal.ensures ∙ c.in_default.is)) o

@@ -7,5 +7,5 @@ use Rattle.listening.proofs.Listened.new.Goals as goal
 
 pub returns : goal.returns
 returns c =
-    let e = take-suc-set c.args.rows.now 0 64214 (omega arith) in
-    record { view = e; kept = record { room = simp length-set c.requires; within = omega arith; ascending = rw e (tt, tt) } }
+    let e = take-suc-set c.args.rows.now 0 64214 (omega (arith, c.told-rows)) in
+    record { view = e; kept = record { room = simp length-set c.told-rows; within = omega arith; ascending = rw e (tt, tt) } }
