@@ -24,7 +24,7 @@ use Rattle.pairs.specs.declared.SweepAnswer.TheVariants.{Quiet, TimedOut}
 use Rattle.pairs.specs.Table.{Key, key_of, key_before, itself, has, live, lowest, later, last_noted, noted}
 use Rattle.pairs.specs.Laws.{stale}
 use Rattle.pair_rows.specs.View.{Rows, cid_of, pair_of, listed_sources_of, row_before, starts, lapsed, older, lonely, note_of, later_note}
-use Rattle.pair_rows.specs.Rows.{by_first_not}
+use Rattle.pair_rows.specs.Rows.{key_before_by}
 use Rattle.pair_rows.specs.Notes.{lonely_swept}
 
 -- ── an ascending list from a place on ──
@@ -80,7 +80,7 @@ has_above c k (p ∷ ps) h u =
     rw (same_not p.cid c (λ e. clash (rw e at later) (cid_order.irrefl c))) (has_above c k ps h u.1)
   where
     by_not : (a b : Key) → before a.cid b.cid ≡ false → before b.cid a.cid ≡ true → key_before a b ≡ false
-    by_not a b e f = by_first_not before ltb (λ (k : Key). k.cid) (λ (k : Key). k.universe) a b e f
+    by_not a b e f = rw (key_before_by a b, e, f) refl
 
 -- whether an ascending list whose first CID is not before c has a pair of c
 pub has_first : (c : Cid) (l : Rows) → Ascending key_before key_of (map pair_of l) → (l ≢ [] → before (pair_of (get_or l 0 [])).cid c ≡ false)

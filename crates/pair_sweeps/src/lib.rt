@@ -3,37 +3,30 @@
 
 #![tactic(auto)]
 
-ghost use Rattle.std.specs.Prelude.{◌≡◌, not, map, ◌≤◌, length, take, drop};
+ghost use Rattle.std.specs.Prelude.{◌≡◌, not, map, ◌≤◌, take, drop};
 ghost use Rattle.laws.specs.Table.{keep, Ascending};
 ghost use Rattle.pairs.specs.Table.{capacity, key_of, key_before, has, live, lowest, last_noted, noted};
 ghost use Rattle.pair_rows.specs.View.{pair_of, pairs_of, listed_sources_of, lonely, starts, lapsed, note_of, later_note, Walkable};
 
-use pair_rows::{PairRows, SourceRows, cid_of, move_pair, move_source, pair_of, skip_before};
+use pair_rows::{PairRows, SourceRows, cid_of, pair_of, skip_before};
 use pairs::{Pair, SweepAnswer};
-use rules::{Cid, E131_NETWORK_DATA_LOSS_TIMEOUT, has_aged, is_expired};
+use rules::{Cid, is_expired};
 
 pub fn is_live(pair: Pair, reading: u64) -> bool
     ensures { result ≡ live reading pair }
 {
-    let stored = pair.reading;
-    !has_aged(E131_NETWORK_DATA_LOSS_TIMEOUT, reading, stored)
+    !is_expired(reading, pair.reading)
 }
 
 // Of the first n pairs those that are live; how many.
 pub fn keep_live(pairs: &mut PairRows, n: usize, reading: u64) -> usize
-    requires { (n ≤ capacity) × (length pairs.old ≡ capacity) }
-    ensures { (result ≤ n) × (length pairs.new ≡ capacity)
-        × (pairs_of result pairs.new ≡ keep (live reading) (pairs_of n pairs.old)) }
+    requires { n ≤ capacity }
+    ensures { (result ≤ n) × (pairs_of result pairs.new ≡ keep (live reading) (pairs_of n pairs.old)) }
 {
-    let mut kept: usize = 0;
-    let mut i: usize = 0;
-    while i < n {
-        let row = pairs[i];
-        let pair = pair_of(row);
-        let at = i;
-        i += 1;
-        if is_live(pair, reading) {
-            move_pair(&mut *pairs, at, kept);
+    let mut kept = 0;
+    for i in 0..n {
+        if is_live(pair_of(pairs[i]), reading) {
+            pairs[kept] = pairs[i];
             kept += 1;
         }
     }
@@ -42,35 +35,25 @@ pub fn keep_live(pairs: &mut PairRows, n: usize, reading: u64) -> usize
 
 // Whether the pair at place j has this CID.
 pub fn starts_with(pairs: &PairRows, n: usize, j: usize, cid: Cid) -> bool
-    requires { (n ≤ capacity) × (length pairs.now ≡ capacity) }
+    requires { n ≤ capacity }
     ensures { result ≡ starts cid (drop j (take n pairs.now)) }
 {
-    if j < n {
-        let row = pairs[j];
-        let pair = pair_of(row);
-        let own = pair.cid;
-        return own.is_same(cid);
-    }
-    false
+    j < n && pair_of(pairs[j]).cid.is_same(cid)
 }
 
 // Of the first m CIDs those that have a pair, by one walk along both lists; how many.
 pub fn keep_sources(pairs: &PairRows, n: usize, sources: &mut SourceRows, m: usize) -> usize
     requires { Walkable n pairs.now m sources.old }
-    ensures { (result ≤ m) × (length sources.new ≡ capacity)
+    ensures { (result ≤ m)
         × (listed_sources_of result sources.new ≡ keep (has (pairs_of n pairs.now)) (listed_sources_of m sources.old)) }
 {
-    let mut kept: usize = 0;
-    let mut i: usize = 0;
-    let mut j: usize = 0;
-    while i < m {
-        let row = sources[i];
-        let cid = cid_of(row);
+    let mut kept = 0;
+    let mut j = 0;
+    for i in 0..m {
+        let cid = cid_of(sources[i]);
         j = skip_before(pairs, n, j, cid);
-        let at = i;
-        i += 1;
         if starts_with(pairs, n, j, cid) {
-            move_source(&mut *sources, at, kept);
+            sources[kept] = sources[i];
             kept += 1;
         }
     }
@@ -82,15 +65,11 @@ pub fn all_paired(pairs: &PairRows, n: usize, sources: &SourceRows, m: usize) ->
     requires { Walkable n pairs.now m sources.now }
     ensures { result ≡ not (lonely (pairs_of n pairs.now) (listed_sources_of m sources.now)) }
 {
-    let mut i: usize = 0;
-    let mut j: usize = 0;
-    while i < m {
-        let row = sources[i];
-        let cid = cid_of(row);
+    let mut j = 0;
+    for i in 0..m {
+        let cid = cid_of(sources[i]);
         j = skip_before(pairs, n, j, cid);
-        if starts_with(pairs, n, j, cid) {
-            i += 1;
-        } else {
+        if !starts_with(pairs, n, j, cid) {
             return false;
         }
     }
@@ -101,31 +80,22 @@ pub fn all_paired(pairs: &PairRows, n: usize, sources: &SourceRows, m: usize) ->
 pub fn is_lapsed(pair: Pair, cid: Cid, reading: u64) -> bool
     ensures { result ≡ lapsed reading cid pair }
 {
-    let own = pair.cid;
-    let stored = pair.reading;
-    if own.is_same(cid) {
-        return is_expired(reading, stored);
-    }
-    false
+    pair.cid.is_same(cid) && is_expired(reading, pair.reading)
 }
 
 // Of the pairs from place j on the CID's expired one of lowest universe. A pair after the CID ends the walk.
 pub fn lowest_expired(pairs: &PairRows, n: usize, j: usize, cid: Cid, reading: u64) -> SweepAnswer
-    requires { (n ≤ capacity) × (j ≤ n) × (length pairs.now ≡ capacity) × Ascending key_before key_of (pairs_of n pairs.now) }
+    requires { (n ≤ capacity) × (j ≤ n) × Ascending key_before key_of (pairs_of n pairs.now) }
     ensures { result ≡ note_of (lowest reading (map pair_of (drop j (take n pairs.now))) cid) }
 {
-    let mut i = j;
-    while i < n {
-        let row = pairs[i];
-        let pair = pair_of(row);
-        let own = pair.cid;
-        if cid.is_before(own) {
+    for i in j..n {
+        let pair = pair_of(pairs[i]);
+        if cid.is_before(pair.cid) {
             return SweepAnswer::Quiet;
         }
         if is_lapsed(pair, cid, reading) {
-            return SweepAnswer::TimedOut(own, pair.universe);
+            return SweepAnswer::TimedOut(pair.cid, pair.universe);
         }
-        i += 1;
     }
     SweepAnswer::Quiet
 }
@@ -134,10 +104,10 @@ pub fn lowest_expired(pairs: &PairRows, n: usize, j: usize, cid: Cid, reading: u
 pub fn later_note(a: SweepAnswer, b: SweepAnswer) -> SweepAnswer
     ensures { result ≡ later_note a b }
 {
-    let SweepAnswer::TimedOut(cid, universe) = b else {
-        return a;
-    };
-    SweepAnswer::TimedOut(cid, universe)
+    match b {
+        SweepAnswer::Quiet => a,
+        SweepAnswer::TimedOut(_, _) => b,
+    }
 }
 
 // What the last of the m sources that has an expired pair notes, by one walk along both lists.
@@ -152,15 +122,11 @@ pub fn last_note(
     ensures { result ≡ note_of (last_noted reading (pairs_of n pairs.now) (listed_sources_of m sources.now)) }
 {
     let mut last = SweepAnswer::Quiet;
-    let mut i: usize = 0;
-    let mut j: usize = 0;
-    while i < m {
-        let row = sources[i];
-        let cid = cid_of(row);
+    let mut j = 0;
+    for i in 0..m {
+        let cid = cid_of(sources[i]);
         j = skip_before(pairs, n, j, cid);
-        let next = lowest_expired(pairs, n, j, cid, reading);
-        last = later_note(last, next);
-        i += 1;
+        last = later_note(last, lowest_expired(pairs, n, j, cid, reading));
     }
     last
 }
@@ -173,10 +139,8 @@ pub fn note(pairs: &PairRows, n: usize, sources: &SourceRows, m: usize, reading:
     if m == 0 {
         return SweepAnswer::Quiet;
     }
-    let row = sources[0];
-    let cid = cid_of(row);
-    let SweepAnswer::TimedOut(_, _) = lowest_expired(pairs, n, 0, cid, reading) else {
-        return SweepAnswer::Quiet;
-    };
-    last_note(pairs, n, sources, m, reading)
+    match lowest_expired(pairs, n, 0, cid_of(sources[0]), reading) {
+        SweepAnswer::Quiet => SweepAnswer::Quiet,
+        SweepAnswer::TimedOut(_, _) => last_note(pairs, n, sources, m, reading),
+    }
 }

@@ -27,10 +27,10 @@ loop-i-preserved c =
     let test : owner (drop c.skip_before-j.result (take c.args.n c.args.pairs.now)) (get_or c.args.sources.now c.loop-i.i []) ≡ c.starts_with.result = walk_has c.loop-i.invariant.2 inside.0 inside.1 c.skip_before-j.result reached c.requires.pairs_ascend
     ∙ ap (λ (d : Cid). starts d (drop c.skip_before-j.result (take c.args.n c.args.pairs.now))) (sym c.cid_of-cid.ensures)
     ∙ sym c.starts_with.ensures in
-    (omega arith, omega arith, walk_on skipped inside.0 inside.1 (test ∙ c.if-starts_with.true))
+    (omega arith, omega arith, walk_on skipped inside.0 inside.1 (test ∙ c.if-not-starts_with.false))
 
-pub returns-else-starts_with : goal.returns-else-starts_with
-returns-else-starts_with c =
+pub returns-then-not-starts_with : goal.returns-then-not-starts_with
+returns-then-not-starts_with c =
     let inside : (c.loop-i.i < c.args.m) × (c.loop-i.i < length c.args.sources.now) = omega arith in
     let reached : c.skip_before-j.result ≡ c.loop-i.j + prefix (row_before (cid_of (get_or c.args.sources.now c.loop-i.i []))) (drop c.loop-i.j (take c.args.n c.args.pairs.now)) = c.skip_before-j.ensures.1
     ∙ ap (λ (d : Cid). c.loop-i.j + prefix (row_before d) (drop c.loop-i.j (take c.args.n c.args.pairs.now))) c.cid_of-cid.ensures in
@@ -38,7 +38,7 @@ returns-else-starts_with c =
     let test : owner (drop c.skip_before-j.result (take c.args.n c.args.pairs.now)) (get_or c.args.sources.now c.loop-i.i []) ≡ c.starts_with.result = walk_has c.loop-i.invariant.2 inside.0 inside.1 c.skip_before-j.result reached c.requires.pairs_ascend
     ∙ ap (λ (d : Cid). starts d (drop c.skip_before-j.result (take c.args.n c.args.pairs.now))) (sym c.cid_of-cid.ensures)
     ∙ sym c.starts_with.ensures in
-    ap not (sym (walk_lonely skipped inside.0 (omega arith) (test ∙ c.if-starts_with.false)))
+    ap not (sym (walk_lonely skipped inside.0 (omega arith) (test ∙ c.if-not-starts_with.true)))
 
 pub returns : goal.returns
 returns c = ap not (sym (walk_paired c.loop-i.invariant.2 (omega arith)))

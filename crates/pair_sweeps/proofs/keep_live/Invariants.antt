@@ -2,7 +2,7 @@
 -- Assumes nothing.
 use mathlib.Core.Path.{◌≡◌}
 use mathlib.Core.List.{◌++◌}
-use Prim.Native.Nat.{◌≤◌, ◌-◌}
+use Prim.Native.Nat.{◌≤◌}
 use lib.ListN.{length, take, drop}
 use Rattle.laws.specs.Table.{keep}
 use Rattle.pairs.specs.Table.{capacity}
@@ -11,6 +11,3 @@ use Rattle.pair_sweeps.proofs.keep_live.Given as goal
 
 abbrev pub invariant-loop-i : goal.invariant-loop-i
 invariant-loop-i l = (l.kept ≤ l.i) × (l.i ≤ l.n) × (length l.pairs ≡ capacity) × (take l.kept l.pairs ++ keep (live_row l.reading) (drop l.i (take l.n l.pairs)) ≡ keep (live_row l.reading) (take l.n l.initial.pairs))
-
-abbrev pub decreases-loop-i : goal.decreases-loop-i
-decreases-loop-i l = l.n - l.i

@@ -25,9 +25,9 @@ loop-i-preserved c =
     let reached : c.skip_before-j.result ≡ c.loop-i.j + prefix (row_before (cid_of (get_or c.args.sources.now c.loop-i.i []))) (drop c.loop-i.j (take c.args.n c.args.pairs.now)) = c.skip_before-j.ensures.1
     ∙ ap (λ (d : Cid). c.loop-i.j + prefix (row_before d) (drop c.loop-i.j (take c.args.n c.args.pairs.now))) c.cid_of-cid.ensures in
     let skipped : NoteWalk c.args.reading (take c.args.n c.args.pairs.now) c.args.m c.args.sources.now c.loop-i.last c.loop-i.i c.skip_before-j.result = note_skip c.loop-i.invariant.2 inside.0 inside.1 c.skip_before-j.result reached in
-    let told : c.lowest_expired-next.result ≡ note_of (lowest c.args.reading (map pair_of (drop c.skip_before-j.result (take c.args.n c.args.pairs.now))) (cid_of (get_or c.args.sources.now c.loop-i.i []))) = c.lowest_expired-next.ensures
+    let told : c.lowest_expired.result ≡ note_of (lowest c.args.reading (map pair_of (drop c.skip_before-j.result (take c.args.n c.args.pairs.now))) (cid_of (get_or c.args.sources.now c.loop-i.i []))) = c.lowest_expired.ensures
     ∙ ap (λ (d : Cid). note_of (lowest c.args.reading (map pair_of (drop c.skip_before-j.result (take c.args.n c.args.pairs.now))) d)) c.cid_of-cid.ensures in
-    (omega arith, omega arith, rw c.later_note-last.ensures (note_on skipped inside.0 inside.1 c.lowest_expired-next.result told))
+    (omega arith, omega arith, rw c.later_note-last.ensures (note_on skipped inside.0 inside.1 c.lowest_expired.result told))
 
 pub returns : goal.returns
 returns c =

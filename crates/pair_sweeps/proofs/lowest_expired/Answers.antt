@@ -1,6 +1,6 @@
 -- A search for an expired pair of the CID; pairs ascend, so the first has the lowest universe, and none stands behind a pair of a later CID.
 -- Assumes nothing.
-use mathlib.Core.Path.{◌≡◌, refl, sym, ap, subst, ◌∙◌}
+use mathlib.Core.Path.{◌≡◌, sym, ap, subst, ◌∙◌}
 use mathlib.Core.List.{List, [], ◌∷◌, map}
 use mathlib.Core.Option.{some}
 use Prim.Native.Nat.{ℕ, ◌+◌}
@@ -13,11 +13,7 @@ use Rattle.pairs.specs.declared.Pair.{Pair}
 use Rattle.pairs.specs.Table.{key_of, key_before, lowest}
 use Rattle.pair_rows.specs.View.{Rows, pair_of, lapsed, note_of}
 use Rattle.pair_sweeps.specs.Sweep.{pairs_from, lowest_hit, lowest_miss, lowest_past}
-use borrow.Author.Rules.{rules}
 use Rattle.pair_sweeps.proofs.lowest_expired.Goals as goal
-
-pub loop-i-init : goal.loop-i-init
-loop-i-init c = (search rules, refl)
 
 pub returns-then-is_before : goal.returns-then-is_before
 returns-then-is_before c =
@@ -25,7 +21,7 @@ returns-then-is_before c =
     let behind : Rows = drop (c.loop-i.i + 1) (take c.args.n c.args.pairs.now) in
     let here : drop c.loop-i.i (take c.args.n c.args.pairs.now) ≡ row ∷ behind = next c.args.pairs.now c.args.n c.loop-i.i [] (omega arith) (omega arith) in
     let ahead : lowest c.args.reading (map pair_of (row ∷ behind)) c.args.cid ≡ lowest c.args.reading (map pair_of (drop c.args.j (take c.args.n c.args.pairs.now))) c.args.cid = ap (λ (l : Rows). lowest c.args.reading (map pair_of l) c.args.cid) (sym here) ∙ c.loop-i.invariant.1 in
-    let ascend : Ascending key_before key_of (map pair_of (row ∷ behind)) = subst (λ (l : Rows). Ascending key_before key_of (map pair_of l)) here (pairs_from c.loop-i.i (take c.args.n c.args.pairs.now) c.requires.3) in
+    let ascend : Ascending key_before key_of (map pair_of (row ∷ behind)) = subst (λ (l : Rows). Ascending key_before key_of (map pair_of l)) here (pairs_from c.loop-i.i (take c.args.n c.args.pairs.now) c.requires.2) in
     let past : before c.args.cid (pair_of row).cid ≡ c.is_before.result = ap (λ (p : Pair). before c.args.cid p.cid) (sym c.pair_of-pair.ensures) ∙ sym c.is_before.ensures in
     let v = c.args in
     ap note_of (sym (lowest_past v.reading v.cid row behind ascend (past ∙ c.if-is_before.true)) ∙ ahead)

@@ -19,19 +19,19 @@ returns-then-m-eq0 c =
     let v = c.args in
     ap (λ (k : ℕ). note_of (noted v.reading (pairs_of v.n v.pairs.now) (listed_sources_of k v.sources.now))) (sym c.if-m-eq0.true)
 
-pub returns-in_default : goal.returns-in_default
-returns-in_default c =
+pub returns-in-Quiet : goal.returns-in-Quiet
+returns-in-Quiet c =
     let first : Option Pair = lowest c.args.reading (pairs_of c.args.n c.args.pairs.now) (cid_of (get_or c.args.sources.now 0 [])) in
-    let test : note_of first ≡ c.lowest_expired.result = ap (λ (d : Cid). note_of (lowest c.args.reading (pairs_of c.args.n c.args.pairs.now) d)) (sym c.cid_of-cid.ensures)
+    let test : note_of first ≡ c.lowest_expired.result = ap (λ (d : Cid). note_of (lowest c.args.reading (pairs_of c.args.n c.args.pairs.now) d)) (sym c.cid_of.ensures)
     ∙ sym c.lowest_expired.ensures in
     let v = c.args in
     ap note_of (sym (noted_first_none v.reading (pairs_of v.n v.pairs.now) v.sources.now v.m (omega arith) (omega arith)
-    (note_none first (test ∙ c.in_default.is))))
+    (note_none first (test ∙ c.in-Quiet.is))))
 
-pub returns : goal.returns
-returns c =
+pub returns-in-TimedOut : goal.returns-in-TimedOut
+returns-in-TimedOut c =
     let first : Option Pair = lowest c.args.reading (pairs_of c.args.n c.args.pairs.now) (cid_of (get_or c.args.sources.now 0 [])) in
-    let test : note_of first ≡ c.lowest_expired.result = ap (λ (d : Cid). note_of (lowest c.args.reading (pairs_of c.args.n c.args.pairs.now) d)) (sym c.cid_of-cid.ensures)
+    let test : note_of first ≡ c.lowest_expired.result = ap (λ (d : Cid). note_of (lowest c.args.reading (pairs_of c.args.n c.args.pairs.now) d)) (sym c.cid_of.ensures)
     ∙ sym c.lowest_expired.ensures in
     let v = c.args in
     let p = note_some first _ _ (test ∙ c.in-TimedOut.is) in
