@@ -1,9 +1,9 @@
 -- What the returns of sweep and arrival come to: one law for each.
 -- Assumes nothing.
 use Rattle.std.proofs.Math.Path.{◌≡◌}
-use Rattle.std.specs.Prelude.{refl, ◌≢◌, true, false, not, ◌&&◌, List, ℕ, ◌≤◌, ◌<◌, length}
+use Rattle.std.specs.Prelude.{refl, ◌≢◌, true, false, not, ◌&&◌, List, ℕ, ◌≤◌, ◌<◌, length, is_some}
 use Rattle.std.proofs.Common.{ap, ◌∙◌, arith}
-use Rattle.std.proofs.Math.Option.{none, some}
+use Rattle.std.proofs.Math.Option.{Option, none, some}
 use Rattle.std.proofs.Math.Dec.{leb}
 use borrow.Author.Tests.{lt-leb, le-leb}
 use Rattle.laws.specs.Cases.{split, clash}
@@ -18,8 +18,13 @@ use Rattle.pairs.specs.declared.Checked.TheVariants.{Accepted, SourcesExceeded, 
 use Rattle.pairs.specs.Table.{key_of, key_before, itself, Table, capacity, pair_at, has, listed, live, swept, unknown, full, check_sequence, stopping, sequence_stop, source_stop, reached, stop, recorded, accepted}
 use Rattle.pairs.specs.Laws.{stale}
 use Rattle.pairs.proofs.Laws.{refused_either}
-use Rattle.pair_rows.specs.View.{lonely}
+use Rattle.pair_rows.specs.View.{lonely, placed}
 use Rattle.pair_tables.specs.View.{pair_stop}
+
+-- ── a place that is found has an entry ──
+pub placed_some : {A : Type 0} (j : ℕ) (o : Option A) → is_some (placed j o) ≡ true → (a : A) × (o ≡ some a)
+placed_some j none e = clash e refl
+placed_some j (some a) e = (a, refl)
 
 -- ── a sweep with nothing to do ──
 pub swept_idle : (now : ℕ) (t : Table) → stale now t.pairs ≡ false → lonely t.pairs t.sources ≡ false → swept now t ≡ t

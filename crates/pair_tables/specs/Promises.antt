@@ -1,15 +1,10 @@
 -- The two lent parts of a table in a contract, its pair rows and its source rows: the table that a call finds, and what it leaves.
 -- Assumes nothing.
-use Rattle.std.specs.Borrow.{MutBor}
-use denote.Triple.Both.{Both}
+use Rattle.laws.specs.Lent.{Part}
 use Rattle.pairs.specs.Table.{Table}
 use Rattle.pair_rows.specs.View.{Rows}
 use Rattle.pair_tables.specs.declared.PairTable.{PairTable}
 use Rattle.pair_tables.specs.View.{table_of, Follows}
-
--- a part lent to be changed, in an `ensures`: the reference as the call finds it and as the call leaves it
-abbrev pub Part : Type 0 → Type 0
-Part X = Both (MutBor X) (MutBor X)
 
 -- the table as the call finds it
 abbrev pub table_before : PairTable → Part Rows → Part Rows → Table

@@ -1,6 +1,6 @@
 -- What a header and the lent rows stand for together: the header says how many rows of each kind are in use.
 -- Assumes nothing.
-use Rattle.std.specs.Prelude.{◌≡◌, ◌⊎◌, Bool, true, false, not, cond, ◌&&◌, List, ℕ, ◌≤◌, ◌<◌, min, leb, length}
+use Rattle.std.specs.Prelude.{◌≡◌, ◌⊎◌, Bool, true, false, not, cond, ◌&&◌, List, ℕ, ◌≤◌, ◌<◌, min, leb, length, Some}
 use Rattle.std.proofs.Math.Option.{Option, none, some}
 use Rattle.laws.specs.Table.{find, store}
 use Rattle.rules.specs.declared.Cid.{Cid}
@@ -10,7 +10,6 @@ use Rattle.rules.specs.Answer.{first_of}
 use Rattle.settings.specs.declared.SourceLimit.{SourceLimit}
 use Rattle.pairs.specs.declared.Pair.{Pair}
 use Rattle.pair_tables.specs.declared.PairTable.{PairTable}
-use Rattle.pair_rows.specs.declared.Found.TheVariants.{At}
 use Rattle.pairs.specs.declared.Checked.{Checked}
 use Rattle.pairs.specs.declared.Checked.TheVariants.{Accepted, PairsFull}
 use Rattle.pairs.specs.declared.SweepAnswer.{SweepAnswer}
@@ -127,7 +126,7 @@ pub record NewPair (t : PairTable) (pairs : Rows) (p : Pair) : Type 0 where
 
 pub record KnownPair (t : PairTable) (pairs : Rows) (at : ℕ) (p : Pair) : Type 0 where
   pub kept : PairsKept t pairs
-  pub stands : At at ≡ found_at (key_of p) (pairs_of t.count pairs)
+  pub stands : Some at ≡ found_at (key_of p) (pairs_of t.count pairs)
 
 pub record NewSource (t : PairTable) (pairs sources : Rows) (p : Pair) : Type 0 where
   pub kept : Kept t pairs sources

@@ -3,7 +3,7 @@
 #![tactic(auto)]
 
 // What every call of a table is lent.
-ghost use Rattle.std.specs.Prelude.{◌≡◌, true, false, not, ◌&&◌, ◌≤◌, ◌<◌, length};
+ghost use Rattle.std.specs.Prelude.{◌≡◌, true, false, not, ◌&&◌, ◌≤◌, ℕ};
 ghost use Rattle.laws.specs.Table.{remove};
 ghost use Rattle.rules.specs.Age.{expired};
 ghost use Rattle.rules.specs.Cid.{before};
@@ -12,15 +12,17 @@ ghost use Rattle.pair_rows.specs.View.{pairs_of, listed_sources_of, found_at};
 ghost use Rattle.pair_tables.specs.Promises.{table_before, Leaves};
 ghost use Rattle.pair_tables.specs.View.{answered, removal, renewed, quiet, reading_noted, Kept, Emptied, Unmoved, PairsKept, Stored, Admitted, Judged, RenewsPair, Renews, NewPair, KnownPair, NewSource, arriving};
 
+use laws::{After, insert_at, remove_at};
 pub use pair_rows::{PairRows, SourceRows};
 use pair_rows::{
-    Found, PAIRS, earlier, find_source, has_pair, insert_pair, insert_source, least_reading,
-    pair_of, pair_row, place_of, remove_pair, remove_source, same_key, source_place, source_row,
+    PAIRS, find_source, has_pair, least_reading, pair_of, pair_row, place_of, same_key,
+    source_place, source_row,
 };
 use pair_sweeps::{all_paired, keep_live, keep_sources, note};
 use pairs::{Checked, Pair, SweepAnswer, check_sequence, is_accepted, is_reached};
 use rules::{Cid, DataSequence, SyncSequence, is_expired};
 use settings::SourceLimit;
+use std::marker::PhantomData;
 
 // What a table says of its lent rows: how many pairs and sources are in use, a reading that no pair is older than, and whether each listed CID is
 // known to have a pair.
@@ -32,35 +34,15 @@ pub struct PairTable {
     pub tidy: bool,
 }
 
-#[derive(Clone, Copy)]
-pub struct Swept {
-    pub table: PairTable,
-    pub answer: SweepAnswer,
-}
-
-#[derive(Clone, Copy)]
-pub struct Removal {
-    pub table: PairTable,
-    // The pair was there.
-    pub known: bool,
-}
-
-#[derive(Clone, Copy)]
-pub struct Arrival {
-    pub table: PairTable,
-    pub answer: Checked,
-}
-
 // The CID taken off the list; how many are left.
 fn drop_source(sources: &mut SourceRows, n: usize, cid: Cid) -> usize
-    requires { (n ≤ capacity) × (length sources.old ≡ capacity) }
-    ensures { (result ≤ n) × (length sources.new ≡ capacity)
-        × (listed_sources_of result sources.new ≡ remove before itself cid (listed_sources_of n sources.old)) }
+    requires { n ≤ capacity }
+    ensures { (result ≤ n) × (listed_sources_of result sources.new ≡ remove before itself cid (listed_sources_of n sources.old)) }
 {
-    let Found::At(at) = find_source(&*sources, n, cid) else {
+    let Some(at) = find_source(sources, n, cid) else {
         return n;
     };
-    remove_source(&mut *sources, n, at);
+    remove_at(sources, n, at);
     n - 1
 }
 
@@ -72,80 +54,65 @@ impl PairTable {
         PairTable {
             count: 0,
             source_count: 0,
-            oldest: 0xFFFF_FFFF_FFFF_FFFF,
+            oldest: u64::MAX,
             tidy: true,
         }
     }
 
-    fn clear(self) -> PairTable
-        ensures { Emptied result }
-    {
-        PairTable::new()
-    }
-
-    fn find(self, pairs: &PairRows, cid: Cid, universe: u16) -> Found
-        requires { (self.count ≤ capacity) × (length pairs.now ≡ capacity) }
+    fn find(self, pairs: &PairRows, cid: Cid, universe: u16) -> Option<usize>
+        requires { self.count ≤ capacity }
         ensures { result ≡ found_at (key cid universe) (pairs_of self.count pairs.now) }
     {
-        let n = self.count;
-        let i = place_of(pairs, n, cid, universe);
-        if i < n {
-            let row = pairs[i];
-            let pair = pair_of(row);
-            if same_key(pair, cid, universe) {
-                return Found::At(i);
-            }
+        let i = place_of(pairs, self.count, cid, universe);
+        if i < self.count && same_key(pair_of(pairs[i]), cid, universe) {
+            Some(i)
+        } else {
+            None
         }
-        Found::Nothing
     }
 
-    // The pair goes, and its CID with its last pair.
+    // The pair goes, and its CID with its last pair. The answer: it was there.
     fn remove(
         self,
         pairs: &mut PairRows,
         sources: &mut SourceRows,
         cid: Cid,
         universe: u16,
-    ) -> Removal
+    ) -> After<PairTable, bool>
         requires { Kept self pairs.old sources.old }
-        ensures { Leaves result.table pairs sources result.known (removal (key cid universe) (table_before self pairs sources)) }
+        ensures { Leaves result.left pairs sources result.answer (removal (key cid universe) (table_before self pairs sources)) }
     {
-        let Found::At(at) = self.find(&*pairs, cid, universe) else {
-            return Removal {
-                table: self,
-                known: false,
+        let Some(at) = self.find(pairs, cid, universe) else {
+            return After {
+                left: self,
+                answer: false,
             };
         };
-        let n = self.count;
-        remove_pair(&mut *pairs, n, at);
-        let left = n - 1;
-        if has_pair(&*pairs, left, cid) {
-            let table = PairTable {
-                count: left,
-                source_count: self.source_count,
-                oldest: self.oldest,
-                tidy: self.tidy,
-            };
-            return Removal { table, known: true };
+        remove_at(pairs, self.count, at);
+        let count = self.count - 1;
+        if has_pair(pairs, count, cid) {
+            After {
+                left: PairTable { count, ..self },
+                answer: true,
+            }
+        } else {
+            let source_count = drop_source(sources, self.source_count, cid);
+            After {
+                left: PairTable {
+                    count,
+                    source_count,
+                    ..self
+                },
+                answer: true,
+            }
         }
-        let remaining = drop_source(&mut *sources, self.source_count, cid);
-        let table = PairTable {
-            count: left,
-            source_count: remaining,
-            oldest: self.oldest,
-            tidy: self.tidy,
-        };
-        Removal { table, known: true }
     }
 
     // No pair can be expired and no CID be without a pair.
     fn is_idle(self, reading: u64) -> bool
         ensures { result ≡ self.tidy && not (expired reading self.oldest) }
     {
-        if self.tidy {
-            return !is_expired(reading, self.oldest);
-        }
-        false
+        self.tidy && !is_expired(reading, self.oldest)
     }
 
     // By its notes alone, a sweep has nothing to do.
@@ -153,9 +120,10 @@ impl PairTable {
         ensures { result ≡ quiet announce reading self }
     {
         if announce {
-            return !is_expired(reading, self.oldest);
+            !is_expired(reading, self.oldest)
+        } else {
+            self.is_idle(reading)
         }
-        self.is_idle(reading)
     }
 
     // The header with its notes made anew from the rows.
@@ -163,88 +131,77 @@ impl PairTable {
         requires { Kept self pairs.now sources.now }
         ensures { result ≡ renewed self pairs.now sources.now }
     {
-        let oldest = least_reading(pairs, self.count);
-        if self.tidy {
-            return PairTable {
-                count: self.count,
-                source_count: self.source_count,
-                oldest: oldest,
-                tidy: true,
-            };
-        }
-        let tidy = all_paired(pairs, self.count, sources, self.source_count);
         PairTable {
-            count: self.count,
-            source_count: self.source_count,
-            oldest: oldest,
-            tidy: tidy,
+            oldest: least_reading(pairs, self.count),
+            tidy: self.tidy || all_paired(pairs, self.count, sources, self.source_count),
+            ..self
         }
     }
 
     // All expired pairs go, and every CID without a pair. Rows are written only if there are such.
-    fn sweep_expired(self, pairs: &mut PairRows, sources: &mut SourceRows, reading: u64) -> Swept
+    fn sweep_expired(
+        self,
+        pairs: &mut PairRows,
+        sources: &mut SourceRows,
+        reading: u64,
+    ) -> After<PairTable, SweepAnswer>
         requires { Kept self pairs.old sources.old }
-        ensures view { Leaves result.table pairs sources result.answer (answered (sweep false reading (table_before self pairs sources))) }
+        ensures view { Leaves result.left pairs sources result.answer (answered (sweep false reading (table_before self pairs sources))) }
         ensures quiet { Unmoved self pairs.old sources.old reading pairs.new sources.new }
     {
         if self.is_idle(reading) {
-            return Swept {
-                table: self,
+            return After {
+                left: self,
                 answer: SweepAnswer::Quiet,
             };
         }
-        let t = self.renew_notes(&*pairs, &*sources);
-        if t.is_idle(reading) {
-            return Swept {
-                table: t,
+        let renewed = self.renew_notes(pairs, sources);
+        if renewed.is_idle(reading) {
+            return After {
+                left: renewed,
                 answer: SweepAnswer::Quiet,
             };
         }
-        let count = keep_live(&mut *pairs, self.count, reading);
-        let oldest = least_reading(&*pairs, count);
-        let listed = keep_sources(&*pairs, count, &mut *sources, self.source_count);
-        let table = PairTable {
-            count: count,
-            source_count: listed,
-            oldest: oldest,
-            tidy: true,
-        };
-        Swept {
-            table: table,
+        let count = keep_live(pairs, self.count, reading);
+        let oldest = least_reading(pairs, count);
+        let source_count = keep_sources(pairs, count, sources, self.source_count);
+        After {
+            left: PairTable {
+                count,
+                source_count,
+                oldest,
+                tidy: true,
+            },
             answer: SweepAnswer::Quiet,
         }
     }
 
     // The pair of the last source noted goes, and is told; where none is noted the header's notes are made anew.
-    fn sweep_announced(self, pairs: &mut PairRows, sources: &mut SourceRows, reading: u64) -> Swept
+    fn sweep_announced(
+        self,
+        pairs: &mut PairRows,
+        sources: &mut SourceRows,
+        reading: u64,
+    ) -> After<PairTable, SweepAnswer>
         requires { Kept self pairs.old sources.old }
-        ensures view { Leaves result.table pairs sources result.answer (answered (sweep true reading (table_before self pairs sources))) }
+        ensures view { Leaves result.left pairs sources result.answer (answered (sweep true reading (table_before self pairs sources))) }
         ensures quiet { Unmoved self pairs.old sources.old reading pairs.new sources.new }
     {
-        if is_expired(reading, self.oldest) {
-            let SweepAnswer::TimedOut(cid, universe) = note(
-                &*pairs,
-                self.count,
-                &*sources,
-                self.source_count,
-                reading,
-            ) else {
-                let renewed = self.renew_notes(&*pairs, &*sources);
-                return Swept {
-                    table: renewed,
-                    answer: SweepAnswer::Quiet,
-                };
-            };
-            let r = self.remove(&mut *pairs, &mut *sources, cid, universe);
-            let table = r.table;
-            return Swept {
-                table: table,
-                answer: SweepAnswer::TimedOut(cid, universe),
+        if !is_expired(reading, self.oldest) {
+            return After {
+                left: self,
+                answer: SweepAnswer::Quiet,
             };
         }
-        Swept {
-            table: self,
-            answer: SweepAnswer::Quiet,
+        match note(pairs, self.count, sources, self.source_count, reading) {
+            SweepAnswer::Quiet => After {
+                left: self.renew_notes(pairs, sources),
+                answer: SweepAnswer::Quiet,
+            },
+            SweepAnswer::TimedOut(cid, universe) => After {
+                left: self.remove(pairs, sources, cid, universe).left,
+                answer: SweepAnswer::TimedOut(cid, universe),
+            },
         }
     }
 
@@ -254,27 +211,25 @@ impl PairTable {
         sources: &mut SourceRows,
         announce: bool,
         reading: u64,
-    ) -> Swept
+    ) -> After<PairTable, SweepAnswer>
         requires { Kept self pairs.old sources.old }
-        ensures view { Leaves result.table pairs sources result.answer (answered (sweep announce reading (table_before self pairs sources))) }
+        ensures view { Leaves result.left pairs sources result.answer (answered (sweep announce reading (table_before self pairs sources))) }
         ensures quiet { Unmoved self pairs.old sources.old reading pairs.new sources.new }
     {
         if announce {
-            return self.sweep_announced(pairs, sources, reading);
+            self.sweep_announced(pairs, sources, reading)
+        } else {
+            self.sweep_expired(pairs, sources, reading)
         }
-        self.sweep_expired(pairs, sources, reading)
     }
 
     // The header with a pair of this reading in its rows.
     fn note_reading(self, reading: u64) -> PairTable
         ensures { result ≡ reading_noted reading self }
     {
-        let oldest = earlier(self.oldest, reading);
         PairTable {
-            count: self.count,
-            source_count: self.source_count,
-            oldest: oldest,
-            tidy: self.tidy,
+            oldest: self.oldest.min(reading),
+            ..self
         }
     }
 
@@ -283,17 +238,12 @@ impl PairTable {
         requires { NewPair self pairs.old pair }
         ensures { Stored self pairs.old result pairs.new pair }
     {
-        let n = self.count;
-        let cid = pair.cid;
-        let at = place_of(&*pairs, n, cid, pair.universe);
-        let row = pair_row(pair);
-        insert_pair(&mut *pairs, n, at, row);
-        let oldest = earlier(self.oldest, pair.reading);
+        let at = place_of(pairs, self.count, pair.cid, pair.universe);
+        insert_at(pairs, self.count, at, pair_row(pair));
         PairTable {
-            count: n + 1,
-            source_count: self.source_count,
-            oldest: oldest,
-            tidy: self.tidy,
+            count: self.count + 1,
+            oldest: self.oldest.min(pair.reading),
+            ..self
         }
     }
 
@@ -302,8 +252,7 @@ impl PairTable {
         requires { KnownPair self pairs.now at pair }
         ensures { Judged pair (pairs_of self.count pairs.now) result }
     {
-        let row = pairs[at];
-        let held = pair_of(row);
+        let held = pair_of(pairs[at]);
         check_sequence(pair.sequence, held.sequence)
     }
 
@@ -313,8 +262,7 @@ impl PairTable {
         ensures rows { Stored self pairs.old result pairs.new pair }
         ensures header { result ≡ reading_noted pair.reading self }
     {
-        let row = pair_row(pair);
-        pairs[at] = row;
+        pairs[at] = pair_row(pair);
         self.note_reading(pair.reading)
     }
 
@@ -323,16 +271,15 @@ impl PairTable {
         requires { PairsKept self pairs.old }
         ensures { RenewsPair self pairs.old pair pairs.new result }
     {
-        let cid = pair.cid;
-        let Found::At(at) = self.find(&*pairs, cid, pair.universe) else {
+        let Some(at) = self.find(pairs, pair.cid, pair.universe) else {
             return false;
         };
-        let answer = self.check_known(&*pairs, at, pair);
-        if is_accepted(answer) {
-            let stored = self.store_known(&mut *pairs, at, pair);
-            return true;
+        if is_accepted(self.check_known(pairs, at, pair)) {
+            self.store_known(pairs, at, pair);
+            true
+        } else {
+            false
         }
-        false
     }
 
     // An arrival that no sweep precedes and nothing stops: the pair is held, its CID listed, its number follows. Otherwise all is left.
@@ -340,45 +287,36 @@ impl PairTable {
         requires { Kept self pairs.old sources.now }
         ensures { Renews announce pair self pairs.old sources.now pairs.new result }
     {
-        if self.is_quiet(announce, pair.reading) {
-            let Found::At(_) = find_source(sources, self.source_count, pair.cid) else {
-                return false;
-            };
-            return self.renew_pair(pairs, pair);
-        }
-        false
+        self.is_quiet(announce, pair.reading)
+            && find_source(sources, self.source_count, pair.cid).is_some()
+            && self.renew_pair(pairs, pair)
     }
 
     // Rules 3 to 5 for the pairs: full, refused, or stored.
-    fn admit_pair(self, pairs: &mut PairRows, pair: Pair) -> Arrival
+    fn admit_pair(self, pairs: &mut PairRows, pair: Pair) -> After<PairTable, Checked>
         requires { PairsKept self pairs.old }
-        ensures { Admitted self pairs.old result.table pairs.new result.answer pair }
+        ensures { Admitted self pairs.old result.left pairs.new result.answer pair }
     {
-        let cid = pair.cid;
-        let Found::At(at) = self.find(&*pairs, cid, pair.universe) else {
+        let Some(at) = self.find(pairs, pair.cid, pair.universe) else {
             if PAIRS <= self.count {
-                return Arrival {
-                    table: self,
+                return After {
+                    left: self,
                     answer: Checked::PairsFull,
                 };
             }
-            let table = self.store_new(&mut *pairs, pair);
-            return Arrival {
-                table: table,
+            return After {
+                left: self.store_new(pairs, pair),
                 answer: Checked::Accepted,
             };
         };
-        let answer = self.check_known(&*pairs, at, pair);
+        let answer = self.check_known(pairs, at, pair);
         if is_accepted(answer) {
-            let table = self.store_known(&mut *pairs, at, pair);
-            return Arrival {
-                table: table,
+            After {
+                left: self.store_known(pairs, at, pair),
                 answer: Checked::Accepted,
-            };
-        }
-        Arrival {
-            table: self,
-            answer: answer,
+            }
+        } else {
+            After { left: self, answer }
         }
     }
 
@@ -389,45 +327,36 @@ impl PairTable {
         sources: &mut SourceRows,
         limit: SourceLimit,
         pair: Pair,
-    ) -> Arrival
+    ) -> After<PairTable, Checked>
         requires { NewSource self pairs.old sources.old pair }
-        ensures { Leaves result.table pairs sources result.answer (admit limit pair (table_before self pairs sources)) }
+        ensures { Leaves result.left pairs sources result.answer (admit limit pair (table_before self pairs sources)) }
     {
         let n = self.source_count;
         if is_reached(limit, n) {
-            return Arrival {
-                table: self,
+            return After {
+                left: self,
                 answer: Checked::SourcesExceeded(n),
             };
         }
         if PAIRS <= n {
-            return Arrival {
-                table: self,
+            return After {
+                left: self,
                 answer: Checked::PairsFull,
             };
         }
-        let r = self.admit_pair(&mut *pairs, pair);
-        let t = r.table;
-        let answer = r.answer;
-        if is_accepted(answer) {
-            let cid = pair.cid;
-            let at = source_place(&*sources, n, cid);
-            let row = source_row(cid);
-            insert_source(&mut *sources, n, at, row);
-            let table = PairTable {
-                count: t.count,
-                source_count: n + 1,
-                oldest: t.oldest,
-                tidy: t.tidy,
-            };
-            return Arrival {
-                table: table,
+        let arrival = self.admit_pair(pairs, pair);
+        if is_accepted(arrival.answer) {
+            let at = source_place(sources, n, pair.cid);
+            insert_at(sources, n, at, source_row(pair.cid));
+            After {
+                left: PairTable {
+                    source_count: n + 1,
+                    ..arrival.left
+                },
                 answer: Checked::Accepted,
-            };
-        }
-        Arrival {
-            table: t,
-            answer: answer,
+            }
+        } else {
+            arrival
         }
     }
 
@@ -438,15 +367,15 @@ impl PairTable {
         sources: &mut SourceRows,
         limit: SourceLimit,
         pair: Pair,
-    ) -> Arrival
+    ) -> After<PairTable, Checked>
         requires { Kept self pairs.old sources.old }
-        ensures { Leaves result.table pairs sources result.answer (admit limit pair (table_before self pairs sources)) }
+        ensures { Leaves result.left pairs sources result.answer (admit limit pair (table_before self pairs sources)) }
     {
-        let cid = pair.cid;
-        let Found::At(_) = find_source(&*sources, self.source_count, cid) else {
-            return self.admit_source(pairs, sources, limit, pair);
-        };
-        self.admit_pair(pairs, pair)
+        if find_source(sources, self.source_count, pair.cid).is_some() {
+            self.admit_pair(pairs, pair)
+        } else {
+            self.admit_source(pairs, sources, limit, pair)
+        }
     }
 
     // An arrival: sweep, then rules 2 to 5. The pair carries the arriving sequence number and the reading.
@@ -457,77 +386,100 @@ impl PairTable {
         limit: SourceLimit,
         announce: bool,
         pair: Pair,
-    ) -> Arrival
+    ) -> After<PairTable, Checked>
         requires { Kept self pairs.old sources.old }
-        ensures { Leaves result.table pairs sources result.answer (check limit announce pair (table_before self pairs sources)) }
+        ensures { Leaves result.left pairs sources result.answer (check limit announce pair (table_before self pairs sources)) }
     {
-        let s = self.sweep(&mut *pairs, &mut *sources, announce, pair.reading);
-        let t = s.table;
-        let told = s.answer;
-        let SweepAnswer::TimedOut(cid, universe) = told else {
-            return t.admit(pairs, sources, limit, pair);
-        };
-        Arrival {
-            table: t,
-            answer: Checked::UniverseTimeout(cid, universe),
+        let swept = self.sweep(pairs, sources, announce, pair.reading);
+        match swept.answer {
+            SweepAnswer::Quiet => swept.left.admit(pairs, sources, limit, pair),
+            SweepAnswer::TimedOut(cid, universe) => After {
+                left: swept.left,
+                answer: Checked::UniverseTimeout(cid, universe),
+            },
         }
     }
 }
 
-// The table of data packets: only a data sequence number enters it.
+// A sequence number of one kind of packet.
+pub trait SequenceNumber: Copy {
+    ghost value: { Self → ℕ };
+
+    fn number(self) -> u8
+        ensures { result ≡ value self };
+}
+
+impl SequenceNumber for DataSequence {
+    ghost value = { λ s. s.0 };
+
+    fn number(self) -> u8 {
+        let DataSequence(number) = self;
+        number
+    }
+}
+
+impl SequenceNumber for SyncSequence {
+    ghost value = { λ s. s.0 };
+
+    fn number(self) -> u8 {
+        let SyncSequence(number) = self;
+        number
+    }
+}
+
+// The table of one kind of packet: only a sequence number of that kind enters it.
 #[derive(Clone, Copy)]
-pub struct DataTable {
+pub struct TableOf<S> {
     pub table: PairTable,
+    pub kind: PhantomData<S>,
 }
 
-#[derive(Clone, Copy)]
-pub struct DataSwept {
-    pub table: DataTable,
-    pub answer: SweepAnswer,
-}
+// The table of data packets.
+pub type DataTable = TableOf<DataSequence>;
 
-#[derive(Clone, Copy)]
-pub struct DataRemoval {
-    pub table: DataTable,
-    pub known: bool,
-}
+// The table of synchronisation packets.
+pub type SyncTable = TableOf<SyncSequence>;
 
-#[derive(Clone, Copy)]
-pub struct DataArrival {
-    pub table: DataTable,
-    pub answer: Checked,
-}
-
-impl DataTable {
-    pub fn new() -> DataTable
-        ensures { Emptied result.table }
+impl<S: SequenceNumber> TableOf<S> {
+    pub fn of(table: PairTable) -> TableOf<S>
+        ensures { result.table ≡ table }
     {
-        let table = PairTable::new();
-        DataTable { table }
+        TableOf {
+            table,
+            kind: PhantomData,
+        }
     }
 
-    pub fn clear(self) -> DataTable
+    pub fn new() -> TableOf<S>
         ensures { Emptied result.table }
     {
-        let t = self.table;
-        let table = t.clear();
-        DataTable { table }
+        TableOf {
+            table: PairTable::new(),
+            kind: PhantomData,
+        }
     }
 
-    pub fn find(self, pairs: &PairRows, cid: Cid, universe: u16) -> Found
-        requires { (self.table.count ≤ capacity) × (length pairs.now ≡ capacity) }
+    pub fn clear(self) -> TableOf<S>
+        ensures { Emptied result.table }
+    {
+        TableOf {
+            table: PairTable::new(),
+            ..self
+        }
+    }
+
+    pub fn find(self, pairs: &PairRows, cid: Cid, universe: u16) -> Option<usize>
+        requires { self.table.count ≤ capacity }
         ensures { result ≡ found_at (key cid universe) (pairs_of self.table.count pairs.now) }
     {
-        let t = self.table;
-        t.find(pairs, cid, universe)
+        self.table.find(pairs, cid, universe)
     }
 
     // By its notes alone, a sweep has nothing to do.
     pub fn is_quiet(self, announce: bool, reading: u64) -> bool
         ensures { result ≡ quiet announce reading self.table }
     {
-        let t = self.table;
-        t.is_quiet(announce, reading)
+        self.table.is_quiet(announce, reading)
     }
 
     pub fn sweep(
@@ -536,37 +488,39 @@ impl DataTable {
         sources: &mut SourceRows,
         announce: bool,
         reading: u64,
-    ) -> DataSwept
+    ) -> After<TableOf<S>, SweepAnswer>
         requires { Kept self.table pairs.old sources.old }
-        ensures view { Leaves result.table.table pairs sources result.answer (answered (sweep announce reading (table_before self.table pairs sources))) }
+        ensures view { Leaves result.left.table pairs sources result.answer (answered (sweep announce reading (table_before self.table pairs sources))) }
         ensures quiet { Unmoved self.table pairs.old sources.old reading pairs.new sources.new }
     {
-        let t = self.table;
-        let r = t.sweep(pairs, sources, announce, reading);
-        let table = r.table;
-        let answer = r.answer;
-        DataSwept {
-            table: DataTable { table },
-            answer: answer,
+        let swept = self.table.sweep(pairs, sources, announce, reading);
+        After {
+            left: TableOf {
+                table: swept.left,
+                ..self
+            },
+            answer: swept.answer,
         }
     }
 
+    // The answer: the pair was there.
     pub fn remove(
         self,
         pairs: &mut PairRows,
         sources: &mut SourceRows,
         cid: Cid,
         universe: u16,
-    ) -> DataRemoval
+    ) -> After<TableOf<S>, bool>
         requires { Kept self.table pairs.old sources.old }
-        ensures { Leaves result.table.table pairs sources result.known (removal (key cid universe) (table_before self.table pairs sources)) }
+        ensures { Leaves result.left.table pairs sources result.answer (removal (key cid universe) (table_before self.table pairs sources)) }
     {
-        let t = self.table;
-        let r = t.remove(pairs, sources, cid, universe);
-        let table = r.table;
-        DataRemoval {
-            table: DataTable { table },
-            known: r.known,
+        let removed = self.table.remove(pairs, sources, cid, universe);
+        After {
+            left: TableOf {
+                table: removed.left,
+                ..self
+            },
+            answer: removed.answer,
         }
     }
 
@@ -578,31 +532,30 @@ impl DataTable {
         announce: bool,
         cid: Cid,
         universe: u16,
-        sequence: DataSequence,
+        sequence: S,
         reading: u64,
     ) -> bool
         requires { Kept self.table pairs.old sources.now }
-        ensures { Renews announce (arriving cid universe sequence.0 reading) self.table
+        ensures { Renews announce (arriving cid universe (S.value sequence) reading) self.table
             pairs.old sources.now pairs.new result }
     {
-        let t = self.table;
-        let number = sequence.0;
         let pair = Pair {
-            cid: cid,
-            universe: universe,
-            sequence: number,
-            reading: reading,
+            cid,
+            universe,
+            sequence: sequence.number(),
+            reading,
         };
-        t.renew(pairs, sources, announce, pair)
+        self.table.renew(pairs, sources, announce, pair)
     }
 
     // The header with a pair of this reading in its rows.
-    pub fn note_reading(self, reading: u64) -> DataTable
+    pub fn note_reading(self, reading: u64) -> TableOf<S>
         ensures { result.table ≡ reading_noted reading self.table }
     {
-        let t = self.table;
-        let table = t.note_reading(reading);
-        DataTable { table }
+        TableOf {
+            table: self.table.note_reading(reading),
+            ..self
+        }
     }
 
     pub fn check_seq_number(
@@ -613,205 +566,35 @@ impl DataTable {
         announce: bool,
         cid: Cid,
         universe: u16,
-        sequence: DataSequence,
+        sequence: S,
         reading: u64,
-    ) -> DataArrival
+    ) -> After<TableOf<S>, Checked>
         requires { Kept self.table pairs.old sources.old }
-        ensures { Leaves result.table.table pairs sources result.answer
-            (check limit announce (arriving cid universe sequence.0 reading) (table_before self.table pairs sources)) }
+        ensures { Leaves result.left.table pairs sources result.answer
+            (check limit announce (arriving cid universe (S.value sequence) reading) (table_before self.table pairs sources)) }
     {
-        let t = self.table;
-        let number = sequence.0;
         let pair = Pair {
-            cid: cid,
-            universe: universe,
-            sequence: number,
-            reading: reading,
+            cid,
+            universe,
+            sequence: sequence.number(),
+            reading,
         };
-        if t.renew(&mut *pairs, &*sources, announce, pair) {
-            let table = t.note_reading(reading);
-            return DataArrival {
-                table: DataTable { table },
+        if self.table.renew(pairs, sources, announce, pair) {
+            After {
+                left: self.note_reading(reading),
                 answer: Checked::Accepted,
-            };
-        }
-        let r = t.check_seq_number(pairs, sources, limit, announce, pair);
-        let table = r.table;
-        let answer = r.answer;
-        DataArrival {
-            table: DataTable { table },
-            answer: answer,
-        }
-    }
-}
-
-// The table of synchronisation packets: only a synchronisation sequence number enters it.
-#[derive(Clone, Copy)]
-pub struct SyncTable {
-    pub table: PairTable,
-}
-
-#[derive(Clone, Copy)]
-pub struct SyncSwept {
-    pub table: SyncTable,
-    pub answer: SweepAnswer,
-}
-
-#[derive(Clone, Copy)]
-pub struct SyncRemoval {
-    pub table: SyncTable,
-    pub known: bool,
-}
-
-#[derive(Clone, Copy)]
-pub struct SyncArrival {
-    pub table: SyncTable,
-    pub answer: Checked,
-}
-
-impl SyncTable {
-    pub fn new() -> SyncTable
-        ensures { Emptied result.table }
-    {
-        let table = PairTable::new();
-        SyncTable { table }
-    }
-
-    pub fn clear(self) -> SyncTable
-        ensures { Emptied result.table }
-    {
-        let t = self.table;
-        let table = t.clear();
-        SyncTable { table }
-    }
-
-    pub fn find(self, pairs: &PairRows, cid: Cid, universe: u16) -> Found
-        requires { (self.table.count ≤ capacity) × (length pairs.now ≡ capacity) }
-        ensures { result ≡ found_at (key cid universe) (pairs_of self.table.count pairs.now) }
-    {
-        let t = self.table;
-        t.find(pairs, cid, universe)
-    }
-
-    // By its notes alone, a sweep has nothing to do.
-    pub fn is_quiet(self, announce: bool, reading: u64) -> bool
-        ensures { result ≡ quiet announce reading self.table }
-    {
-        let t = self.table;
-        t.is_quiet(announce, reading)
-    }
-
-    pub fn sweep(
-        self,
-        pairs: &mut PairRows,
-        sources: &mut SourceRows,
-        announce: bool,
-        reading: u64,
-    ) -> SyncSwept
-        requires { Kept self.table pairs.old sources.old }
-        ensures view { Leaves result.table.table pairs sources result.answer (answered (sweep announce reading (table_before self.table pairs sources))) }
-        ensures quiet { Unmoved self.table pairs.old sources.old reading pairs.new sources.new }
-    {
-        let t = self.table;
-        let r = t.sweep(pairs, sources, announce, reading);
-        let table = r.table;
-        let answer = r.answer;
-        SyncSwept {
-            table: SyncTable { table },
-            answer: answer,
-        }
-    }
-
-    pub fn remove(
-        self,
-        pairs: &mut PairRows,
-        sources: &mut SourceRows,
-        cid: Cid,
-        universe: u16,
-    ) -> SyncRemoval
-        requires { Kept self.table pairs.old sources.old }
-        ensures { Leaves result.table.table pairs sources result.known (removal (key cid universe) (table_before self.table pairs sources)) }
-    {
-        let t = self.table;
-        let r = t.remove(pairs, sources, cid, universe);
-        let table = r.table;
-        SyncRemoval {
-            table: SyncTable { table },
-            known: r.known,
-        }
-    }
-
-    // The commonest arrival; `note_reading` gives the header that then goes with the rows. Otherwise all is left.
-    pub fn renew(
-        self,
-        pairs: &mut PairRows,
-        sources: &SourceRows,
-        announce: bool,
-        cid: Cid,
-        universe: u16,
-        sequence: SyncSequence,
-        reading: u64,
-    ) -> bool
-        requires { Kept self.table pairs.old sources.now }
-        ensures { Renews announce (arriving cid universe sequence.0 reading) self.table
-            pairs.old sources.now pairs.new result }
-    {
-        let t = self.table;
-        let number = sequence.0;
-        let pair = Pair {
-            cid: cid,
-            universe: universe,
-            sequence: number,
-            reading: reading,
-        };
-        t.renew(pairs, sources, announce, pair)
-    }
-
-    // The header with a pair of this reading in its rows.
-    pub fn note_reading(self, reading: u64) -> SyncTable
-        ensures { result.table ≡ reading_noted reading self.table }
-    {
-        let t = self.table;
-        let table = t.note_reading(reading);
-        SyncTable { table }
-    }
-
-    pub fn check_seq_number(
-        self,
-        pairs: &mut PairRows,
-        sources: &mut SourceRows,
-        limit: SourceLimit,
-        announce: bool,
-        cid: Cid,
-        universe: u16,
-        sequence: SyncSequence,
-        reading: u64,
-    ) -> SyncArrival
-        requires { Kept self.table pairs.old sources.old }
-        ensures { Leaves result.table.table pairs sources result.answer
-            (check limit announce (arriving cid universe sequence.0 reading) (table_before self.table pairs sources)) }
-    {
-        let t = self.table;
-        let number = sequence.0;
-        let pair = Pair {
-            cid: cid,
-            universe: universe,
-            sequence: number,
-            reading: reading,
-        };
-        if t.renew(&mut *pairs, &*sources, announce, pair) {
-            let table = t.note_reading(reading);
-            return SyncArrival {
-                table: SyncTable { table },
-                answer: Checked::Accepted,
-            };
-        }
-        let r = t.check_seq_number(pairs, sources, limit, announce, pair);
-        let table = r.table;
-        let answer = r.answer;
-        SyncArrival {
-            table: SyncTable { table },
-            answer: answer,
+            }
+        } else {
+            let arrival = self
+                .table
+                .check_seq_number(pairs, sources, limit, announce, pair);
+            After {
+                left: TableOf {
+                    table: arrival.left,
+                    ..self
+                },
+                answer: arrival.answer,
+            }
         }
     }
 }

@@ -19,24 +19,24 @@ pub returns-in_default : goal.returns-in_default
 returns-in_default c =
     let v = c.args in
     let e = placed_nothing (place before itself v.cid (listed_sources_of v.n v.sources.now)) (find before itself v.cid (listed_sources_of v.n v.sources.now)) (sym c.find_source.ensures ∙ c.in_default.is) in
-    (search rules, search rules, sym (remove_absent before itself cid_order v.cid (listed_sources_of v.n v.sources.now) e))
+    (search rules, sym (remove_absent before itself cid_order v.cid (listed_sources_of v.n v.sources.now) e))
 
-pub remove_source-requires : goal.remove_source-requires
-remove_source-requires c =
-    let hit : (d : Cid) × (find before itself c.args.cid (listed_sources_of c.args.n c.args.sources.now) ≡ some d) × (place before itself c.args.cid (listed_sources_of c.args.n c.args.sources.now) ≡ c.in-At.at) = placed_at (place before itself c.args.cid (listed_sources_of c.args.n c.args.sources.now)) c.in-At.at (find before itself c.args.cid (listed_sources_of c.args.n c.args.sources.now)) (sym c.find_source.ensures ∙ c.in-At.is) in
-    let inside : c.in-At.at < c.args.n = found_inside before itself cid_order cid_of c.args.n c.args.sources.now c.args.cid hit.0 c.in-At.at hit.1 hit.2 in
+pub remove_at-requires : goal.remove_at-requires
+remove_at-requires c =
+    let hit : (d : Cid) × (find before itself c.args.cid (listed_sources_of c.args.n c.args.sources.now) ≡ some d) × (place before itself c.args.cid (listed_sources_of c.args.n c.args.sources.now) ≡ c.in-Some.at) = placed_at (place before itself c.args.cid (listed_sources_of c.args.n c.args.sources.now)) c.in-Some.at (find before itself c.args.cid (listed_sources_of c.args.n c.args.sources.now)) (sym c.find_source.ensures ∙ c.in-Some.is) in
+    let inside : c.in-Some.at < c.args.n = found_inside before itself cid_order cid_of c.args.n c.args.sources.now c.args.cid hit.0 c.in-Some.at hit.1 hit.2 in
     let h = inside in
-    (search rules, h, search rules)
+    (omega arith, h)
 
 pub overflow_sub-result : goal.overflow_sub-result
 overflow_sub-result c =
-    let hit : (d : Cid) × (find before itself c.args.cid (listed_sources_of c.args.n c.args.sources.now) ≡ some d) × (place before itself c.args.cid (listed_sources_of c.args.n c.args.sources.now) ≡ c.in-At.at) = placed_at (place before itself c.args.cid (listed_sources_of c.args.n c.args.sources.now)) c.in-At.at (find before itself c.args.cid (listed_sources_of c.args.n c.args.sources.now)) (sym c.find_source.ensures ∙ c.in-At.is) in
-    let inside : c.in-At.at < c.args.n = found_inside before itself cid_order cid_of c.args.n c.args.sources.now c.args.cid hit.0 c.in-At.at hit.1 hit.2 in
+    let hit : (d : Cid) × (find before itself c.args.cid (listed_sources_of c.args.n c.args.sources.now) ≡ some d) × (place before itself c.args.cid (listed_sources_of c.args.n c.args.sources.now) ≡ c.in-Some.at) = placed_at (place before itself c.args.cid (listed_sources_of c.args.n c.args.sources.now)) c.in-Some.at (find before itself c.args.cid (listed_sources_of c.args.n c.args.sources.now)) (sym c.find_source.ensures ∙ c.in-Some.is) in
+    let inside : c.in-Some.at < c.args.n = found_inside before itself cid_order cid_of c.args.n c.args.sources.now c.args.cid hit.0 c.in-Some.at hit.1 hit.2 in
     let h = inside in omega arith
 
 pub returns : goal.returns
 returns c =
-    let hit : (d : Cid) × (find before itself c.args.cid (listed_sources_of c.args.n c.args.sources.now) ≡ some d) × (place before itself c.args.cid (listed_sources_of c.args.n c.args.sources.now) ≡ c.in-At.at) = placed_at (place before itself c.args.cid (listed_sources_of c.args.n c.args.sources.now)) c.in-At.at (find before itself c.args.cid (listed_sources_of c.args.n c.args.sources.now)) (sym c.find_source.ensures ∙ c.in-At.is) in
+    let hit : (d : Cid) × (find before itself c.args.cid (listed_sources_of c.args.n c.args.sources.now) ≡ some d) × (place before itself c.args.cid (listed_sources_of c.args.n c.args.sources.now) ≡ c.in-Some.at) = placed_at (place before itself c.args.cid (listed_sources_of c.args.n c.args.sources.now)) c.in-Some.at (find before itself c.args.cid (listed_sources_of c.args.n c.args.sources.now)) (sym c.find_source.ensures ∙ c.in-Some.is) in
     let v = c.args in
     let h = hit in
-    (search rules, c.remove_source.ensures.0, rows_removed before itself cid_order cid_of v.n v.sources.now v.cid h.0 c.in-At.at c.remove_source.new.sources h.1 h.2 c.remove_source.ensures.1)
+    (search rules, rows_removed before itself cid_order cid_of v.n v.sources.now v.cid h.0 c.in-Some.at c.remove_at.new.elements h.1 h.2 c.remove_at.ensures.taken_out)

@@ -1,29 +1,19 @@
 -- The CID is listed, and the pairs decide, or it is not.
 -- Assumes nothing.
-use mathlib.Core.Path.{◌≡◌, sym, ◌∙◌}
-use mathlib.Core.Option.{Option, some}
-use Prim.Native.Nat.{ℕ}
+use Rattle.std.proofs.Common.{sym, ap, ◌∙◌}
+use Rattle.std.specs.Prelude.{is_some}
 use Rattle.laws.specs.Table.{find}
 use Rattle.laws.specs.Place.{place}
-use Rattle.rules.specs.declared.Cid.{Cid}
 use Rattle.rules.specs.Cid.{before}
 use Rattle.pairs.specs.Table.{itself}
 use Rattle.pair_rows.specs.View.{listed_sources_of}
-use Rattle.pair_rows.specs.Stores.{placed_at, placed_nothing}
+use Rattle.pair_tables.proofs.AdmitLaws.{placed_some}
 use Rattle.pair_tables.proofs.CallsLaws.{admit_listed}
 use Rattle.pair_tables.proofs.PairTable.admit.Goals as goal
 
-pub admit_source-requires : goal.admit_source-requires
-admit_source-requires c =
-    let where-it-is : ℕ = place before itself c.args.pair.cid (listed_sources_of c.args.self.source_count c.args.sources.now) in
-    let what : Option Cid = find before itself c.args.pair.cid (listed_sources_of c.args.self.source_count c.args.sources.now) in
+pub returns-then-is_some : goal.returns-then-is_some
+returns-then-is_some c =
     let v = c.args in
-    record { kept = c.requires; missing = placed_nothing where-it-is what (sym c.find_source.ensures ∙ c.in_default.is) }
-
-pub returns : goal.returns
-returns c =
-    let where-it-is : ℕ = place before itself c.args.pair.cid (listed_sources_of c.args.self.source_count c.args.sources.now) in
-    let what : Option Cid = find before itself c.args.pair.cid (listed_sources_of c.args.self.source_count c.args.sources.now) in
-    let hit : (d : Cid) × (what ≡ some d) = let h = placed_at where-it-is _ what (sym c.find_source.ensures ∙ c.in-At.is) in (h.0, h.1) in
-    let v = c.args in
-    admit_listed v.self v.pairs.now v.sources.now c.requires v.limit v.pair hit.0 c.admit_pair.result.table c.admit_pair.new.pairs c.admit_pair.result.answer hit.1 c.admit_pair.ensures
+    let cs = listed_sources_of v.self.source_count v.sources.now in
+    let hit = placed_some (place before itself v.pair.cid cs) (find before itself v.pair.cid cs) (ap is_some (sym c.find_source.ensures) ∙ sym c.is_some.ensures ∙ c.if-is_some.true) in
+    admit_listed v.self v.pairs.now v.sources.now c.requires v.limit v.pair hit.0 c.admit_pair.result.left c.admit_pair.new.pairs c.admit_pair.result.answer hit.1 c.admit_pair.ensures

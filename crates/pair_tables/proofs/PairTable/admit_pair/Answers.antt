@@ -21,8 +21,8 @@ returns-then-self-ge-PAIRS c =
     placed_nothing (place key_before key_of (key_of v.pair) (pairs_of v.self.count v.pairs.now)) (pair_at (key_of v.pair) (pairs_of v.self.count v.pairs.now)) (sym c.find.ensures ∙ c.in_default.is) in
     inr (pair_full c.args.pair (pairs_of c.args.self.count c.args.pairs.now) unheld (omega (arith, long)), refl, refl)
 
-pub store_new-table-requires : goal.store_new-table-requires
-store_new-table-requires c =
+pub store_new-requires : goal.store_new-requires
+store_new-requires c =
     let unheld : pair_at (key_of c.args.pair) (pairs_of c.args.self.count c.args.pairs.now) ≡ none = let v = c.args in
     placed_nothing (place key_before key_of (key_of v.pair) (pairs_of v.self.count v.pairs.now)) (pair_at (key_of v.pair) (pairs_of v.self.count v.pairs.now)) (sym c.find.ensures ∙ c.in_default.is) in
     record { kept = c.requires; room = search rules; missing = unheld }
@@ -32,20 +32,20 @@ returns-in_default c =
     let long : length (pairs_of c.args.self.count c.args.pairs.now) ≡ c.args.self.count = used pair_of c.args.self.count c.args.pairs.now c.requires.count_fits c.requires.pairs_room in
     let unheld : pair_at (key_of c.args.pair) (pairs_of c.args.self.count c.args.pairs.now) ≡ none = let v = c.args in
     placed_nothing (place key_before key_of (key_of v.pair) (pairs_of v.self.count v.pairs.now)) (pair_at (key_of v.pair) (pairs_of v.self.count v.pairs.now)) (sym c.find.ensures ∙ c.in_default.is) in
-    inl (pair_new c.args.pair (pairs_of c.args.self.count c.args.pairs.now) unheld (omega (arith, long)), refl, c.store_new-table.ensures)
+    inl (pair_new c.args.pair (pairs_of c.args.self.count c.args.pairs.now) unheld (omega (arith, long)), refl, c.store_new.ensures)
 
 pub check_known-answer-requires : goal.check_known-answer-requires
 check_known-answer-requires c =
-    record { kept = c.requires; stands = sym c.in-At.is ∙ c.find.ensures }
+    record { kept = c.requires; stands = sym c.in-Some.is ∙ c.find.ensures }
 
-pub store_known-table-requires : goal.store_known-table-requires
-store_known-table-requires c =
-    record { kept = c.requires; stands = sym c.in-At.is ∙ c.find.ensures }
+pub store_known-requires : goal.store_known-requires
+store_known-requires c =
+    record { kept = c.requires; stands = sym c.in-Some.is ∙ c.find.ensures }
 
 pub returns-then-is_accepted : goal.returns-then-is_accepted
 returns-then-is_accepted c =
-    inl (c.check_known-answer.ensures.passes (sym c.is_accepted.ensures ∙ c.if-is_accepted.true), refl, c.store_known-table.ensures.rows)
+    inl (c.check_known-answer.ensures.passes (sym c.is_accepted.ensures ∙ c.if-is_accepted.true), refl, c.store_known.ensures.rows)
 
-pub returns : goal.returns
-returns c =
+pub returns-else-is_accepted : goal.returns-else-is_accepted
+returns-else-is_accepted c =
     inr (c.check_known-answer.ensures.stops (sym c.is_accepted.ensures ∙ c.if-is_accepted.false), refl, refl)

@@ -23,12 +23,12 @@ pub returns-then-is_accepted : goal.returns-then-is_accepted
 returns-then-is_accepted c =
     let v = c.args in
     admit_joins v.self v.pairs.now v.sources.now c.requires.kept v.limit v.pair c.requires.missing (sym c.is_reached.ensures ∙ c.if-is_reached.false) c.if-n-ge-PAIRS.false
-    c.admit_pair-r.result.table c.admit_pair-r.new.pairs c.admit_pair-r.result.answer c.admit_pair-r.ensures c.insert_source.new.sources c.insert_source.ensures.0
-    (rows_inserted before itself cid_order cid_of v.self.source_count v.sources.now c.source_row-row.result v.pair.cid c.source_place-at.result c.insert_source.new.sources c.source_row-row.ensures c.requires.missing c.source_place-at.ensures.1 c.insert_source.ensures.1)
+    c.admit_pair-arrival.result.left c.admit_pair-arrival.new.pairs c.admit_pair-arrival.result.answer c.admit_pair-arrival.ensures c.insert_at.new.elements (c.insert_at.ensures.kept ∙ c.requires.kept.sources_room)
+    (rows_inserted before itself cid_order cid_of v.self.source_count v.sources.now c.source_row.result v.pair.cid c.source_place-at.result c.insert_at.new.elements c.source_row.ensures c.requires.missing c.source_place-at.ensures.1 c.insert_at.ensures.put_in)
     (sym c.is_accepted.ensures ∙ c.if-is_accepted.true)
 
-pub returns : goal.returns
-returns c =
+pub returns-else-is_accepted : goal.returns-else-is_accepted
+returns-else-is_accepted c =
     let v = c.args in
     admit_refused v.self v.pairs.now v.sources.now c.requires.kept v.limit v.pair c.requires.missing (sym c.is_reached.ensures ∙ c.if-is_reached.false) c.if-n-ge-PAIRS.false
-    c.admit_pair-r.result.table c.admit_pair-r.new.pairs c.admit_pair-r.result.answer c.admit_pair-r.ensures (sym c.is_accepted.ensures ∙ c.if-is_accepted.false)
+    c.admit_pair-arrival.result.left c.admit_pair-arrival.new.pairs c.admit_pair-arrival.result.answer c.admit_pair-arrival.ensures (sym c.is_accepted.ensures ∙ c.if-is_accepted.false)

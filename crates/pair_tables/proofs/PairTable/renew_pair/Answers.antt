@@ -10,25 +10,25 @@ use Rattle.pair_tables.proofs.PairTable.renew_pair.Goals as goal
 pub returns-in_default : goal.returns-in_default
 returns-in_default c = record { stored = λ e. clash e refl; left = λ e. refl }
 
-pub check_known-answer-requires : goal.check_known-answer-requires
-check_known-answer-requires c =
-    record { kept = c.requires; stands = sym c.in-At.is ∙ c.find.ensures }
+pub check_known-requires : goal.check_known-requires
+check_known-requires c =
+    record { kept = c.requires; stands = sym c.in-Some.is ∙ c.find.ensures }
 
-pub store_known-stored-requires : goal.store_known-stored-requires
-store_known-stored-requires c =
-    record { kept = c.requires; stands = sym c.in-At.is ∙ c.find.ensures }
+pub store_known-requires : goal.store_known-requires
+store_known-requires c =
+    record { kept = c.requires; stands = sym c.in-Some.is ∙ c.find.ensures }
 
 pub returns-then-is_accepted : goal.returns-then-is_accepted
 returns-then-is_accepted c =
     let v = c.args in
     record {
       stored = λ e. inl (
-        c.check_known-answer.ensures.passes (sym c.is_accepted.ensures ∙ c.if-is_accepted.true),
+        c.check_known.ensures.passes (sym c.is_accepted.ensures ∙ c.if-is_accepted.true),
         refl,
-        subst (λ (u : PairTable). Stored v.self v.pairs.now u c.store_known-stored.new.pairs v.pair) c.store_known-stored.ensures.header c.store_known-stored.ensures.rows,
+        subst (λ (u : PairTable). Stored v.self v.pairs.now u c.store_known.new.pairs v.pair) c.store_known.ensures.header c.store_known.ensures.rows,
       );
       left = λ e. clash refl e;
     }
 
-pub returns : goal.returns
-returns c = record { stored = λ e. clash e refl; left = λ e. refl }
+pub returns-else-is_accepted : goal.returns-else-is_accepted
+returns-else-is_accepted c = record { stored = λ e. clash e refl; left = λ e. refl }

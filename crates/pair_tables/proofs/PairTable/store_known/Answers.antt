@@ -28,16 +28,13 @@ bounds-pairs-at c =
     let inside : c.args.at < c.args.self.count = found_inside key_before key_of key_order pair_of c.args.self.count c.args.pairs.now (key_of c.args.pair) hit.0 c.args.at hit.1 hit.2 in
     let h = inside in let k = c.requires.kept.count_fits in omega arith
 
-pub returns : goal.returns
-returns c =
+pub returns-clause-rows : goal.returns-clause-rows
+returns-clause-rows c =
     let hit : (p : Pair) × (pair_at (key_of c.args.pair) (pairs_of c.args.self.count c.args.pairs.now) ≡ some p) × (place key_before key_of (key_of c.args.pair) (pairs_of c.args.self.count c.args.pairs.now) ≡ c.args.at) = placed_at (place key_before key_of (key_of c.args.pair) (pairs_of c.args.self.count c.args.pairs.now)) c.args.at (pair_at (key_of c.args.pair) (pairs_of c.args.self.count c.args.pairs.now)) (sym c.requires.stands) in
     let v = c.args in
     let h = hit in
-    let after = set v.pairs.now v.at c.pair_row-row.result in
-    record {
-      rows = subst (λ (u : PairTable). Stored v.self v.pairs.now u after v.pair) (sym c.note_reading.ensures)
-          (stored_as v.self v.pairs.now v.pair v.self.count (min v.self.oldest v.pair.reading) after c.requires.kept
-          (simp length-set c.requires.kept.pairs_room) c.requires.kept.count_fits
-          (rows_replaced key_before key_of key_order pair_of v.self.count v.pairs.now c.pair_row-row.result v.pair h.0 v.at c.pair_row-row.ensures h.1 h.2) refl);
-      header = c.note_reading.ensures;
-    }
+    let after = set v.pairs.now v.at c.pair_row.result in
+    subst (λ (u : PairTable). Stored v.self v.pairs.now u after v.pair) (sym c.note_reading.ensures)
+    (stored_as v.self v.pairs.now v.pair v.self.count (min v.self.oldest v.pair.reading) after c.requires.kept
+    (simp length-set c.requires.kept.pairs_room) c.requires.kept.count_fits
+    (rows_replaced key_before key_of key_order pair_of v.self.count v.pairs.now c.pair_row.result v.pair h.0 v.at c.pair_row.ensures h.1 h.2) refl)

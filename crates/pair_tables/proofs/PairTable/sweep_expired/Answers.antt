@@ -25,19 +25,17 @@ pub returns-then-is_idle-2 : goal.returns-then-is_idle-2
 returns-then-is_idle-2 c =
     let v = c.args in
     record {
-      view = sweep_renewed v.self v.pairs.now v.sources.now c.requires v.reading c.renew_notes-t.result c.renew_notes-t.ensures (sym c.is_idle-2.ensures ∙ c.if-is_idle-2.true);
+      view = sweep_renewed v.self v.pairs.now v.sources.now c.requires v.reading c.renew_notes-renewed.result c.renew_notes-renewed.ensures (sym c.is_idle-2.ensures ∙ c.if-is_idle-2.true);
       quiet = rows_stay v.self v.pairs.now v.sources.now c.requires v.reading;
     }
 
-pub keep_sources-listed-requires : goal.keep_sources-listed-requires
-keep_sources-listed-requires c =
+pub keep_sources-source_count-requires : goal.keep_sources-source_count-requires
+keep_sources-source_count-requires c =
     let few : c.keep_live-count.result ≤ capacity = omega (arith, c.keep_live-count.ensures.0, c.requires.count_fits) in
     record {
       n_fits = few;
-      pairs_room = c.keep_live-count.ensures.1;
       m_fits = c.requires.source_count_fits;
-      sources_room = c.requires.sources_room;
-      pairs_ascend = subst (λ (ps : List Pair). Ascending key_before key_of ps) (sym c.keep_live-count.ensures.2)
+      pairs_ascend = subst (λ (ps : List Pair). Ascending key_before key_of ps) (sym c.keep_live-count.ensures.1)
           (ascending_keep key_before key_of key_order (live c.args.reading) (pairs_of c.args.self.count c.args.pairs.now) c.requires.ordered.pairs_ascend);
       sources_ascend = c.requires.ordered.sources_ascend;
     }
@@ -46,10 +44,10 @@ pub returns : goal.returns
 returns c =
     let few : c.keep_live-count.result ≤ capacity = omega (arith, c.keep_live-count.ensures.0, c.requires.count_fits) in
     let v = c.args in
-    let m : c.keep_sources-listed.result ≤ capacity = omega (arith, c.keep_sources-listed.ensures.0, c.requires.source_count_fits) in
+    let m : c.keep_sources-source_count.result ≤ capacity = omega (arith, c.keep_sources-source_count.ensures.0, c.requires.source_count_fits) in
     record {
-      view = sweep_done v.self v.pairs.now v.sources.now c.requires v.reading c.keep_live-count.result c.keep_sources-listed.result c.least_reading-oldest.result c.keep_live-count.new.pairs c.keep_sources-listed.new.sources
-          c.keep_live-count.ensures.1 c.keep_sources-listed.ensures.1 few m c.keep_live-count.ensures.2 c.keep_sources-listed.ensures.2 c.least_reading-oldest.ensures;
-      quiet = rows_busy v.self v.pairs.now v.sources.now c.requires v.reading c.renew_notes-t.result c.keep_live-count.new.pairs c.keep_sources-listed.new.sources (omega arith) c.renew_notes-t.ensures
+      view = sweep_done v.self v.pairs.now v.sources.now c.requires v.reading c.keep_live-count.result c.keep_sources-source_count.result c.least_reading-oldest.result c.keep_live-count.new.pairs c.keep_sources-source_count.new.sources
+          c.keep_live-count.array_long c.keep_sources-source_count.array_long few m c.keep_live-count.ensures.1 c.keep_sources-source_count.ensures.1 c.least_reading-oldest.ensures;
+      quiet = rows_busy v.self v.pairs.now v.sources.now c.requires v.reading c.renew_notes-renewed.result c.keep_live-count.new.pairs c.keep_sources-source_count.new.sources (omega arith) c.renew_notes-renewed.ensures
           (sym c.is_idle-2.ensures ∙ c.if-is_idle-2.false);
     }
