@@ -1,15 +1,10 @@
 -- Page rows and pool in a contract: each part is named once, as the call finds it and as it leaves it.
 -- Assumes nothing.
 use Rattle.std.specs.Prelude.{List, ℕ, take}
-use Rattle.std.specs.Borrow.{MutBor}
-use denote.Triple.Both.{Both}
+use Rattle.laws.specs.Lent.{Part}
 use Rattle.discovery_rows.specs.Store.{Leaf}
 use Rattle.discovery_rows.specs.Rows.{leaves}
 use Rattle.discovery_pages.specs.Passes.{Packs}
-
--- a part lent to be changed, in an `ensures`: the reference as the call finds it and as the call leaves it
-abbrev pub Part : Type 0 → Type 0
-Part X = Both (MutBor X) (MutBor X)
 
 -- the first count pages as the call finds them
 abbrev pub leaves_before : ℕ → Part (List (List ℕ)) → Part (List ℕ) → List Leaf

@@ -10,10 +10,11 @@ ghost use Rattle.discovery_pages.specs.Passes.{Packing};
 ghost use Rattle.discovery_pages.specs.Steps.{no_larger};
 ghost use Rattle.discovery_pages.specs.Promises.{leaves_before, PacksIn};
 
-use crate::pool::{cut_down, move_down, open_gap, write_at};
+use crate::pool::{cut_down, move_down, open_gap};
 use discovery_rows::PageRows;
-use discovery_rows::owners::{is_page_of, offset};
-use discovery_rows::rows::{insert_page, page_place};
+use discovery_rows::owners::{is_owned, offset};
+use discovery_rows::rows::page_place;
+use laws::{insert_at, paste};
 use rules::Cid;
 
 // How many pages are left, and how many universes they have.
@@ -38,21 +39,16 @@ pub fn drop_pages(
     let mut kept = 0;
     let mut to = 0;
     let mut from = 0;
-    let mut i = 0;
-    while i < count {
+    for i in 0..count {
         let row = pages[i];
         let n = row[4] as usize;
-        if is_page_of(row, mark, cid) {
-            from += n;
-            i += 1;
-        } else {
-            move_down(&mut *universes, to, from, n);
+        if !is_owned(&row, mark, cid) {
+            move_down(universes, to, from, n);
             pages[kept] = row;
             kept += 1;
             to += n;
-            from += n;
-            i += 1;
         }
+        from += n;
     }
     Left {
         page_count: kept,
@@ -73,23 +69,18 @@ pub fn cut_pages(
 {
     let mut to = 0;
     let mut from = 0;
-    let mut i = 0;
-    while i < count {
+    for i in 0..count {
         let row = pages[i];
         let n = row[4] as usize;
-        if is_page_of(row, 1, cid) {
-            let kept = cut_down(&mut *universes, to, from, n, universe);
-            let cut = [row[0], row[1], row[2], row[3], kept as u64];
-            pages[i] = cut;
+        if is_owned(&row, 1, cid) {
+            let kept = cut_down(universes, to, from, n, universe);
+            pages[i] = [row[0], row[1], row[2], row[3], kept as u64];
             to += kept;
-            from += n;
-            i += 1;
         } else {
-            move_down(&mut *universes, to, from, n);
+            move_down(universes, to, from, n);
             to += n;
-            from += n;
-            i += 1;
         }
+        from += n;
     }
     to
 }
@@ -112,24 +103,21 @@ pub fn add_page(
         (record { mark = 0; cid = cid; page = record { number = number; universes = list.now } }) before) }
 {
     let n = list.len();
-    let at = page_place(&*pages, count, cid, number);
-    let begin = offset(&*pages, at);
-    open_gap(&mut *universes, used, begin, n);
-    write_at(&mut *universes, begin, list);
-    let row = [0, cid.hi, cid.lo, number as u64, n as u64];
-    insert_page(&mut *pages, count, at, row);
+    let at = page_place(pages, count, cid, number);
+    let begin = offset(pages, at);
+    open_gap(universes, used, begin, n);
+    paste(universes, begin, list);
+    let row = [0, cid.hi, cid.lo, u64::from(number), n as u64];
+    insert_at(pages, count, at, row);
 }
 
 // The last row is a page of the partial source, of no larger number.
 fn goes_last(pages: &PageRows, count: usize, cid: Cid, number: u8) -> bool
-    requires { (0 < count) × (count ≤ capacity) × (length pages.now ≡ capacity) }
+    requires { (0 < count) × (count ≤ capacity) }
     ensures { result ≡ no_larger cid number (get_or pages.now (count - 1) []) }
 {
-    let row = pages[count - 1];
-    if is_page_of(row, 0, cid) {
-        return row[3] <= number as u64;
-    }
-    false
+    let row = &pages[count - 1];
+    is_owned(row, 0, cid) && row[3] <= u64::from(number)
 }
 
 // The same as add_page for a source whose pages stand in order: one that goes last needs no search for its place.
@@ -150,12 +138,10 @@ pub fn put_page(
         (insert_at (prefix (behind 0 cid number) before)
         (record { mark = 0; cid = cid; page = record { number = number; universes = list.now } }) before) }
 {
-    if goes_last(&*pages, count, cid, number) {
-        let n = list.len();
-        write_at(&mut *universes, used, list);
-        let row = [0, cid.hi, cid.lo, number as u64, n as u64];
-        pages[count] = row;
-        return;
+    if goes_last(pages, count, cid, number) {
+        paste(universes, used, list);
+        pages[count] = [0, cid.hi, cid.lo, u64::from(number), list.len() as u64];
+    } else {
+        add_page(pages, universes, count, used, cid, number, list);
     }
-    add_page(&mut *pages, &mut *universes, count, used, cid, number, list);
 }

@@ -13,26 +13,7 @@ pub fn open_gap(universes: &mut [u16], used: usize, at: usize, n: usize)
         × (drop (at + n) (take (used + n) universes.new) ≡ drop at (take used universes.old))
         × (drop (used + n) universes.new ≡ drop (used + n) universes.old) }
 {
-    let mut i = used;
-    while at < i {
-        i -= 1;
-        let u = universes[i];
-        universes[i + n] = u;
-    }
-}
-
-// The list put at place at.
-pub fn write_at(universes: &mut [u16], at: usize, list: &[u16])
-    requires { at + length list.now ≤ length universes.old }
-    ensures { (length universes.new ≡ length universes.old)
-        × (take (at + length list.now) universes.new ≡ take at universes.old ++ list.now)
-        × (drop (at + length list.now) universes.new ≡ drop (at + length list.now) universes.old) }
-{
-    let mut i = 0;
-    while i < list.len() {
-        universes[at + i] = list[i];
-        i += 1;
-    }
+    universes.copy_within(at..used, at + n);
 }
 
 // n from place from moved down to place to.
@@ -42,14 +23,8 @@ pub fn move_down(universes: &mut [u16], to: usize, from: usize, n: usize)
         × (take (to + n) universes.new ≡ take to universes.old ++ take n (drop from universes.old))
         × (drop (from + n) universes.new ≡ drop (from + n) universes.old) }
 {
-    if to == from {
-        return;
-    }
-    let mut i = 0;
-    while i < n {
-        let u = universes[from + i];
-        universes[to + i] = u;
-        i += 1;
+    if to != from {
+        universes.copy_within(from..from + n, to);
     }
 }
 
@@ -63,10 +38,8 @@ pub fn cut_down(universes: &mut [u16], to: usize, from: usize, n: usize, univers
         × (drop (from + n) universes.new ≡ drop (from + n) universes.old) }
 {
     let mut kept = 0;
-    let mut i = 0;
-    while i < n {
+    for i in 0..n {
         let u = universes[from + i];
-        i += 1;
         if u != universe {
             universes[to + kept] = u;
             kept += 1;

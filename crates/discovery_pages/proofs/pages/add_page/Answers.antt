@@ -2,9 +2,10 @@
 -- Assumes nothing.
 use mathlib.Core.Path.{◌∙◌}
 use mathlib.Core.Bool.{not}
-use Prim.Native.Nat.{◌≤◌}
+use Prim.Native.Nat.{◌≤◌, ◌+◌}
 use native.Mathlib.Omega.{arith}
 use lib.ListN.{length}
+use Rattle.laws.specs.Parts.{length_pasted, take_pasted, drop_pasted}
 use Rattle.discovery_rows.specs.Rows.{larger}
 use Rattle.discovery_pages.specs.Passes.{few_less}
 use Rattle.discovery_rows.specs.Walks.{place_within}
@@ -13,27 +14,24 @@ use Rattle.discovery_pages.proofs.pages.add_page.Goals as goal
 
 pub offset-begin-requires : goal.offset-begin-requires
 offset-begin-requires c =
-    let s = c in
-    let v = s.args in
+    let v = c.args in
     let f = c.page_place-at in
     let h : f.result ≤ v.count = omega (arith, f.ensures, place_within (λ r. not (larger v.cid v.number r)) v.count v.pages.now) in
-    (omega (arith, s.requires.0.within), s.requires.0.rows, few_less f.result v.count v.pages.now h s.requires.0.few)
+    (omega (arith, c.requires.0.within), few_less f.result v.count v.pages.now h c.requires.0.few)
 
 pub open_gap-requires : goal.open_gap-requires
 open_gap-requires c =
-    let s = c in
-    let v = s.args in
+    let v = c.args in
     let f = c.page_place-at in
     let h : f.result ≤ v.count = omega (arith, f.ensures, place_within (λ r. not (larger v.cid v.number r)) v.count v.pages.now) in
     let o = c.offset-begin in (
-      omega (arith, o.ensures, offset_inside f.result v.count v.pages.now h, s.requires.1),
-      omega (arith, s.requires.1, pool_room v.count v.pages.now v.universes.now (length v.list.now) s.requires.0 s.requires.2 s.requires.3),
+      omega (arith, o.ensures, offset_inside f.result v.count v.pages.now h, c.requires.1),
+      omega (arith, c.requires.1, pool_room v.count v.pages.now v.universes.now (length v.list.now) c.requires.0 c.requires.2 c.requires.3),
     )
 
-pub write_at-requires : goal.write_at-requires
-write_at-requires c =
-    let s = c in
-    let v = s.args in
+pub paste-requires : goal.paste-requires
+paste-requires c =
+    let v = c.args in
     let f = c.page_place-at in
     let h : f.result ≤ v.count = omega (arith, f.ensures, place_within (λ r. not (larger v.cid v.number r)) v.count v.pages.now) in
     let o = c.offset-begin in
@@ -43,35 +41,34 @@ write_at-requires c =
       g.ensures.0,
       o.ensures,
       offset_inside f.result v.count v.pages.now h,
-      s.requires.1,
-      pool_room v.count v.pages.now v.universes.now (length v.list.now) s.requires.0 s.requires.2 s.requires.3,
+      c.requires.1,
+      pool_room v.count v.pages.now v.universes.now (length v.list.now) c.requires.0 c.requires.2 c.requires.3,
     )
 
-pub insert_page-requires : goal.insert_page-requires
-insert_page-requires c =
-    let s = c in
-    let v = s.args in
+pub insert_at-requires : goal.insert_at-requires
+insert_at-requires c =
+    let v = c.args in
     let f = c.page_place-at in
     let h : f.result ≤ v.count = omega (arith, f.ensures, place_within (λ r. not (larger v.cid v.number r)) v.count v.pages.now) in
-    (s.requires.2, h, s.requires.0.rows)
-
-pub shape_of-universes : goal.shape_of-universes
-shape_of-universes c =
-    let s = c in
-    let v = s.args in
-    let f = c.page_place-at in
-    let h : f.result ≤ v.count = omega (arith, f.ensures, place_within (λ r. not (larger v.cid v.number r)) v.count v.pages.now) in
-    c.write_at.ensures.0 ∙ c.open_gap.ensures.0
+    (omega (arith, c.requires.2, c.requires.0.rows), h)
 
 pub returns : goal.returns
 returns c =
-    let s = c in
-    let v = s.args in
+    let v = c.args in
     let f = c.page_place-at in
     let h : f.result ≤ v.count = omega (arith, f.ensures, place_within (λ r. not (larger v.cid v.number r)) v.count v.pages.now) in
     let o = c.offset-begin in
     let g = c.open_gap in
-    let w = c.write_at in
-    let i = c.insert_page in
-    page_inserted v.count v.used v.pages.now i.new.pages v.universes.now g.new.universes w.new.universes v.cid v.number v.list.now f.result o.result
-    s.requires.0 s.requires.1 s.requires.2 s.requires.3 f.ensures o.ensures i.ensures.0 i.ensures.1 g.ensures.0 w.ensures.0 g.ensures.1 g.ensures.2 w.ensures.1 w.ensures.2 g.ensures.3
+    let w = c.paste in
+    let i = c.insert_at in
+    let l = v.list.now in
+    let room = pool_room v.count v.pages.now v.universes.now (length l) c.requires.0 c.requires.2 c.requires.3 in
+    let inside = offset_inside f.result v.count v.pages.now h in
+    let b : o.result + length l ≤ length g.new.universes = omega (arith, g.ensures.0, o.ensures, inside, c.requires.1, room) in
+    page_inserted v.count v.used v.pages.now i.new.elements v.universes.now g.new.universes w.new.elements v.cid v.number l f.result o.result
+    c.requires.0 c.requires.1 c.requires.2 c.requires.3 f.ensures o.ensures (i.ensures.kept ∙ c.requires.0.rows) (rw c.from.ensures at i.ensures.put_in) g.ensures.0
+    (rw w.ensures (length_pasted g.new.universes o.result l b))
+    g.ensures.1 g.ensures.2
+    (rw w.ensures (take_pasted g.new.universes o.result l (omega (arith, b))))
+    (rw w.ensures (drop_pasted g.new.universes o.result l (omega (arith, b)) (o.result + length l) (omega arith)))
+    g.ensures.3

@@ -1,31 +1,7 @@
--- From the last to the first each is moved up by n; those before it are as they were.
+-- All are moved at once.
 -- Assumes nothing.
-use mathlib.Core.Path.{◌≡◌, sym, ◌∙◌}
-use mathlib.Core.List.{List, []}
-use Prim.Native.Nat.{ℕ, ◌-◌, ◌+◌}
-use native.Mathlib.Omega.{arith}
-use lib.ListN.{take, drop, get_or, length-set}
-use lib.Seq.{take-set-le, drop-set-lt}
-use Rattle.laws.specs.Arrays.{spent}
-use Rattle.discovery_pages.specs.Pool.{take_less, moved_up}
+use Rattle.discovery_pages.specs.Pool.{lifted}
 use Rattle.discovery_pages.proofs.pool.open_gap.Goals as goal
 
--- nothing lies behind the first k of a list
-gone : (k : ℕ) (l : List ℕ) → [] ≡ drop k (take k l)
-gone k l = sym (spent l k k (omega arith))
-
-pub loop-i-preserved : goal.loop-i-preserved
-loop-i-preserved c =
-    let w = c.loop-i in
-    let v = c.args in
-    let u = v.universes.now in
-    let i = w.i - 1 in
-    let e : w.i ≡ i + 1 = omega arith in
-    let x = get_or w.universes i 0 in (
-      omega arith,
-      omega arith,
-      simp length-set w.invariant.2,
-      take-set-le i w.universes (i + v.n) x (omega arith) ∙ take_less w.universes u w.i i (omega arith) w.invariant.3,
-      moved_up w.universes u v.used v.n i 0 (omega arith) (omega arith) (omega arith) (rw e at w.invariant.3) (rw e at w.invariant.4),
-      drop-set-lt (v.used + v.n) w.universes (i + v.n) x (omega arith) ∙ w.invariant.5,
-    )
+pub returns : goal.returns
+returns c = lifted c.args.universes.now c.copy_within.new.self c.args.used c.args.at c.args.n c.copy_within.ensures.after c.requires.0 c.requires.1
