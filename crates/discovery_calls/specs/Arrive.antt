@@ -13,9 +13,8 @@ use Rattle.rules.specs.declared.Cid.{Cid}
 use Rattle.rules.specs.Cid.{same}
 use Rattle.rules.proofs.CidLaws.{same_refl}
 use Rattle.discovery_calls.specs.declared.Discovery.{Discovery}
-use Rattle.discovery_calls.specs.declared.PageArrived.{PageArrived}
+use Rattle.laws.specs.declared.After.{After}
 use Rattle.discovery.specs.declared.PageAnswer.{PageAnswer}
-use Rattle.discovery_calls.specs.declared.PageCalled.{PageCalled}
 use Rattle.discovery.specs.declared.PageCall.{PageCall}
 use Rattle.discovery.specs.declared.PageCall.TheVariants.{Done, TooLong}
 use Rattle.discovery.specs.declared.PageAnswer.TheVariants.{Taken, Listed, PagesFull}
@@ -30,9 +29,9 @@ use Rattle.discovery_calls.specs.View.{heads_of, leaves_of, discovered_of, Kept,
 use Rattle.discovery_calls.specs.Calls.{headless}
 
 -- what a page's arrival leaves and answers
-pub record Took (lent_pool : List ℕ) (r : PageArrived) (S N P : List (List ℕ)) (U : List ℕ) (e : Discovered × PageAnswer) : Type 0 where
-  pub kept : Kept r.discovery S N P U
-  pub seen : discovered_of r.discovery S N P U ≡ e.0
+pub record Took (lent_pool : List ℕ) (r : After Discovery PageAnswer) (S N P : List (List ℕ)) (U : List ℕ) (e : Discovered × PageAnswer) : Type 0 where
+  pub kept : Kept r.left S N P U
+  pub seen : discovered_of r.left S N P U ≡ e.0
   pub answered : r.answer ≡ e.1
   pub lent : Lent lent_pool U
 
@@ -45,7 +44,7 @@ module _ (d : Discovery) (S N P : List (List ℕ)) (U : List ℕ) (now : ℕ) (a
   -- a partial entry is begun
   pub took_begun : (e : Discovery) (S' N' P' : List (List ℕ)) (U' : List ℕ) → (eqb a.page 0 && eqb a.last_page 0) ≡ false
       → Holds U e S' N' P' U' (with_source 0 (begun now a) (discovered_of d S N P U))
-      → Took U (record { discovery = e; answer = Taken }) S' N' P' U' (taken now a (discovered_of d S N P U))
+      → Took U (record { left = e; answer = Taken }) S' N' P' U' (taken now a (discovered_of d S N P U))
   unfolding taken noted noting
   took_begun e S' N' P' U' f h = record {
     kept = h.kept;
@@ -57,7 +56,7 @@ module _ (d : Discovery) (S N P : List (List ℕ)) (U : List ℕ) (now : ℕ) (a
   -- page 0 with last page 0 is listed
   pub took_first : (e : Discovery) (S' N' P' : List (List ℕ)) (U' : List ℕ) → (eqb a.page 0 && eqb a.last_page 0) ≡ true
       → Holds U e S' N' P' U' (with_source 1 (begun now a) (without 1 a.cid (discovered_of d S N P U)))
-      → Took U (record { discovery = e; answer = Listed }) S' N' P' U' (taken now a (discovered_of d S N P U))
+      → Took U (record { left = e; answer = Listed }) S' N' P' U' (taken now a (discovered_of d S N P U))
   unfolding taken noted noting relisted begun
   took_first e S' N' P' U' f h =
       let x : drop_source a.cid (discovered_of d S N P U).partial ≡ (discovered_of d S N P U).partial =
@@ -165,7 +164,7 @@ module _ (d : Discovery) (S N P : List (List ℕ)) (U : List ℕ) (now : ℕ) (a
       ∙ ap (λ (n : ℕ). numbered 0 (suc n) (pages_at 0 (leaves (take d₁.page_count P₁) U₁) a.cid)) (l ∙ sym (extended_last now a t))
       ∙ ap (numbered 0 (suc (extended now a t).last_page)) (sym (pages_after d₁ S₁ N₁ P₁ U₁ a.cid (extended now a t) seen_after))
 
-  pub took_extended : complete (extended now a t) ≡ false → Took U (record { discovery = d₁; answer = Taken }) S₁ N₁ P₁ U₁ (taken now a (discovered_of d S N P U))
+  pub took_extended : complete (extended now a t) ≡ false → Took U (record { left = d₁; answer = Taken }) S₁ N₁ P₁ U₁ (taken now a (discovered_of d S N P U))
   unfolding taken noted
   took_extended f = record {
     kept = h.kept;
@@ -176,7 +175,7 @@ module _ (d : Discovery) (S N P : List (List ℕ)) (U : List ℕ) (now : ℕ) (a
 
   pub took_listed : complete (extended now a t) ≡ true → (d₂ : Discovery) (S₂ N₂ P₂ : List (List ℕ)) (U₂ : List ℕ)
       → Holds U₁ d₂ S₂ N₂ P₂ U₂ (noting (list (extended now a t)) (discovered_of d₁ S₁ N₁ P₁ U₁))
-      → Took U (record { discovery = d₂; answer = Listed }) S₂ N₂ P₂ U₂ (taken now a (discovered_of d S N P U))
+      → Took U (record { left = d₂; answer = Listed }) S₂ N₂ P₂ U₂ (taken now a (discovered_of d S N P U))
   unfolding taken noted
   took_listed f d₂ S₂ N₂ P₂ U₂ g =
       let s = extended now a t in
@@ -189,13 +188,13 @@ module _ (d : Discovery) (S N P : List (List ℕ)) (U : List ℕ) (now : ℕ) (a
       }
 
 -- ── the whole arrival: "64 pages on arrival | 13" ──
-pub record Arrival (d : Discovery) (S N P : List (List ℕ)) (U : List ℕ) (now : ℕ) (a : Announcement) (r : PageArrived) (S' N' P' : List (List ℕ)) (U' : List ℕ) : Type 0 where
+pub record Arrival (d : Discovery) (S N P : List (List ℕ)) (U : List ℕ) (now : ℕ) (a : Announcement) (r : After Discovery PageAnswer) (S' N' P' : List (List ℕ)) (U' : List ℕ) : Type 0 where
   pub took : Took U r S' N' P' U' (arrived now a (discovered_of d S N P U))
   -- a page that is refused leaves all
-  pub refused : overfull a (discovered_of d S N P U) ≡ true → (r.discovery ≡ d) × (S' ≡ S) × (N' ≡ N) × (P' ≡ P) × (U' ≡ U)
+  pub refused : overfull a (discovered_of d S N P U) ≡ true → (r.left ≡ d) × (S' ≡ S) × (N' ≡ N) × (P' ≡ P) × (U' ≡ U)
 
 module _ (d : Discovery) (S N P : List (List ℕ)) (U : List ℕ) (k : Kept d S N P U) (now : ℕ) (a : Announcement) where
-  pub arrival_full : capacity ≤ d.page_count → Arrival d S N P U now a (record { discovery = d; answer = PagesFull }) S N P U
+  pub arrival_full : capacity ≤ d.page_count → Arrival d S N P U now a (record { left = d; answer = PagesFull }) S N P U
   unfolding arrived
   arrival_full h =
       let f : overfull a (discovered_of d S N P U) ≡ true = rw (kept_held d S N P U k) (le-leb capacity d.page_count h) in
@@ -204,7 +203,7 @@ module _ (d : Discovery) (S N P : List (List ℕ)) (U : List ℕ) (k : Kept d S 
         refused = λ e. (refl, refl, refl, refl, refl);
       }
 
-  pub arrival_taken : (r : PageArrived) (S' N' P' : List (List ℕ)) (U' : List ℕ) → d.page_count < capacity
+  pub arrival_taken : (r : After Discovery PageAnswer) (S' N' P' : List (List ℕ)) (U' : List ℕ) → d.page_count < capacity
       → Took U r S' N' P' U' (taken now a (discovered_of d S N P U)) → Arrival d S N P U now a r S' N' P' U'
   unfolding arrived
   arrival_taken r S' N' P' U' h t =
@@ -215,13 +214,13 @@ module _ (d : Discovery) (S N P : List (List ℕ)) (U : List ℕ) (k : Kept d S 
       }
 
 -- ── the call, for every input ──
-pub record Called (d : Discovery) (S N P : List (List ℕ)) (U : List ℕ) (now : ℕ) (a : Announcement) (r : PageCalled) (S' N' P' : List (List ℕ)) (U' : List ℕ) : Type 0 where
-  pub kept : Kept r.discovery S' N' P' U'
-  pub seen : discovered_of r.discovery S' N' P' U' ≡ (page_call now a (discovered_of d S N P U)).0
+pub record Called (d : Discovery) (S N P : List (List ℕ)) (U : List ℕ) (now : ℕ) (a : Announcement) (r : After Discovery PageCall) (S' N' P' : List (List ℕ)) (U' : List ℕ) : Type 0 where
+  pub kept : Kept r.left S' N' P' U'
+  pub seen : discovered_of r.left S' N' P' U' ≡ (page_call now a (discovered_of d S N P U)).0
   pub answered : r.answer ≡ (page_call now a (discovered_of d S N P U)).1
   pub lent : Lent U U'
   -- 'What stops a call', 1 and 13: all is left
-  pub all_left : eqb (call_number r.answer) 0 ≡ false → (r.discovery ≡ d) × (S' ≡ S) × (N' ≡ N) × (P' ≡ P) × (U' ≡ U)
+  pub all_left : eqb (call_number r.answer) 0 ≡ false → (r.left ≡ d) × (S' ≡ S) × (N' ≡ N) × (P' ≡ P) × (U' ≡ U)
 
 -- a page that is not too long arrives
 pub page_call_fits : (now : ℕ) (a : Announcement) (v : Discovered) → length a.name ≤ most_name → length a.universes ≤ most_universes
@@ -253,7 +252,7 @@ module _ (d : Discovery) (S N P : List (List ℕ)) (U : List ℕ) (k : Kept d S 
   unfolding too_long
   long_list g h = rw (le-ltb most_name (length a.name) g, lt-ltb most_universes (length a.universes) h)
 
-  called_long : (n : ℕ) → too_long a ≡ some n → Called d S N P U now a (record { discovery = d; answer = TooLong n }) S N P U
+  called_long : (n : ℕ) → too_long a ≡ some n → Called d S N P U now a (record { left = d; answer = TooLong n }) S N P U
   unfolding page_call
   called_long n e = record {
     kept = k;
@@ -263,14 +262,14 @@ module _ (d : Discovery) (S N P : List (List ℕ)) (U : List ℕ) (k : Kept d S 
     all_left = λ z. (refl, refl, refl, refl, refl);
   }
 
-  pub called_name : most_name < length a.name → Called d S N P U now a (record { discovery = d; answer = TooLong (length a.name) }) S N P U
+  pub called_name : most_name < length a.name → Called d S N P U now a (record { left = d; answer = TooLong (length a.name) }) S N P U
   called_name h = called_long (length a.name) (long_name h)
 
-  pub called_list : length a.name ≤ most_name → most_universes < length a.universes → Called d S N P U now a (record { discovery = d; answer = TooLong (length a.universes) }) S N P U
+  pub called_list : length a.name ≤ most_name → most_universes < length a.universes → Called d S N P U now a (record { left = d; answer = TooLong (length a.universes) }) S N P U
   called_list g h = called_long (length a.universes) (long_list g h)
 
-  pub called_done : (r : PageArrived) (S' N' P' : List (List ℕ)) (U' : List ℕ) → length a.name ≤ most_name → length a.universes ≤ most_universes → Arrival d S N P U now a r S' N' P' U'
-      → Called d S N P U now a (record { discovery = r.discovery; answer = Done r.answer }) S' N' P' U'
+  pub called_done : (r : After Discovery PageAnswer) (S' N' P' : List (List ℕ)) (U' : List ℕ) → length a.name ≤ most_name → length a.universes ≤ most_universes → Arrival d S N P U now a r S' N' P' U'
+      → Called d S N P U now a (record { left = r.left; answer = Done r.answer }) S' N' P' U'
   called_done r S' N' P' U' g h t =
       let e = page_call_fits now a (discovered_of d S N P U) g h in
       record {

@@ -2,7 +2,7 @@
 
 #![tactic(auto)]
 
-ghost use Rattle.std.specs.Prelude.{◌≡◌, true, false, not, ◌+◌, ◌≤◌, ◌<◌, length, take};
+ghost use Rattle.std.specs.Prelude.{◌≡◌, true, false, not, ◌≤◌, ◌<◌, length, take};
 ghost use Rattle.std.proofs.Math.Option.{some};
 ghost use Rattle.laws.specs.Table.{any};
 ghost use Rattle.laws.specs.Place.{prefix};
@@ -15,12 +15,13 @@ ghost use Rattle.discovery_calls.specs.Promises.{lent, lent_names_shared, lent_s
 
 use discovery::{NAME, PAGE_UNIVERSES, PAGES, PageAnswer, PageCall};
 use discovery_pages::pages::{cut_pages, drop_pages, put_page};
-use discovery_pages::pool::write_at;
+use discovery_rows::owners::cid_of;
 use discovery_rows::rows::{
-    find_cid, find_expired, find_from, find_source, has_all_pages, name_row, remove_name,
-    remove_source, turn_pages, turn_source,
+    find_cid, find_expired, find_from, find_source, has_all_pages, name_row, turn_pages,
+    turn_source,
 };
 use discovery_rows::{HeadRows, NameRows, PageRows};
+use laws::{After, paste, remove_at};
 use rules::Cid;
 
 // What is known of the sources, in rows and a pool of universes that the caller lends to every call.
@@ -31,22 +32,19 @@ pub struct Discovery {
     pub used: usize,
 }
 
-// The state after a page's arrival, and its answer.
+// A discovery packet's contents: a page of a source's universes.
 #[derive(Clone, Copy)]
-pub struct PageArrived {
-    pub discovery: Discovery,
-    pub answer: PageAnswer,
-}
-
-// The state after the call, and its answer.
-#[derive(Clone, Copy)]
-pub struct PageCalled {
-    pub discovery: Discovery,
-    pub answer: PageCall,
+pub struct Page<'a> {
+    pub cid: Cid,
+    pub page: u8,
+    pub last_page: u8,
+    pub name: &'a [u8],
+    pub list: &'a [u16],
 }
 
 impl Discovery {
     // The source of this mark goes, with its pages. It stands nowhere before place from.
+    // A mark is a number, as it is a word of the lent rows.
     fn drop_source(
         self,
         sources: &mut HeadRows,
@@ -62,13 +60,13 @@ impl Discovery {
         ensures { let m = lent sources names pages universes in DroppedIn mark cid self m result }
     {
         let count = self.source_count;
-        let at = find_from(&*sources, count, from, mark, cid);
+        let at = find_from(sources, count, from, mark, cid);
         if count <= at {
             return self;
         }
-        remove_source(&mut *sources, count, at);
-        remove_name(&mut *names, count, at);
-        let left = drop_pages(&mut *pages, &mut *universes, self.page_count, mark, cid);
+        remove_at(sources, count, at);
+        remove_at(names, count, at);
+        let left = drop_pages(pages, universes, self.page_count, mark, cid);
         Discovery {
             source_count: count - 1,
             page_count: left.page_count,
@@ -85,40 +83,36 @@ impl Discovery {
         universes: &mut [u16],
         reading: u64,
         mark: u64,
-        cid: Cid,
-        page: u8,
-        last_page: u8,
-        name: &[u8],
-        list: &[u16],
+        page: Page,
     ) -> Discovery
         requires { Kept self sources.old names.old pages.old universes.old × (mark < 2)
-            × (self.page_count < capacity) × (length name.now ≤ most_name) × (length list.now ≤ most_universes)
-            × (any (is_head_of mark cid) (heads_of self sources.old names.old) ≡ false) }
+            × (self.page_count < capacity) × (length page.name.now ≤ most_name) × (length page.list.now ≤ most_universes)
+            × (any (is_head_of mark page.cid) (heads_of self sources.old names.old) ≡ false) }
         ensures { let m = lent sources names pages universes in
-            HoldsIn m result (with_source mark (begun reading (announcement cid name page last_page list)) (known self m.entry)) }
+            HoldsIn m result (with_source mark (begun reading (announcement page)) (known self m.entry)) }
     {
         let at = self.source_count;
-        let count = self.page_count;
-        let used = self.used;
-        let n = list.len();
-        let source_row = [
+        paste(universes, self.used, page.list);
+        sources[at] = [
             mark,
-            cid.hi,
-            cid.lo,
-            last_page as u64,
+            page.cid.hi,
+            page.cid.lo,
+            u64::from(page.last_page),
             reading,
-            name.len() as u64,
+            page.name.len() as u64,
         ];
-        let page_row = [mark, cid.hi, cid.lo, page as u64, n as u64];
-        let kept_name = name_row(name);
-        write_at(&mut *universes, used, list);
-        sources[at] = source_row;
-        names[at] = kept_name;
-        pages[count] = page_row;
+        names[at] = name_row(page.name);
+        pages[self.page_count] = [
+            mark,
+            page.cid.hi,
+            page.cid.lo,
+            u64::from(page.page),
+            page.list.len() as u64,
+        ];
         Discovery {
             source_count: at + 1,
-            page_count: count + 1,
-            used: used + n,
+            page_count: self.page_count + 1,
+            used: self.used + page.list.len(),
         }
     }
 
@@ -131,30 +125,30 @@ impl Discovery {
         universes: &mut [u16],
         reading: u64,
         at: usize,
-        cid: Cid,
-        page: u8,
-        last_page: u8,
-        name: &[u8],
-        list: &[u16],
+        page: Page,
     ) -> Discovery
         requires { Kept self sources.old names.now pages.old universes.old
-            × (self.page_count < capacity) × (length name.now ≤ most_name) × (length list.now ≤ most_universes)
-            × (at ≡ prefix (λ row. not (owned 0 cid row)) (take self.source_count sources.old)) × (at < self.source_count) }
+            × (self.page_count < capacity) × (length page.name.now ≤ most_name) × (length page.list.now ≤ most_universes)
+            × (at ≡ prefix (λ row. not (owned 0 page.cid row)) (take self.source_count sources.old)) × (at < self.source_count) }
         ensures { let m = lent_names_shared sources names pages universes in
-            ((t : Source) → lookup cid (known self m.entry).partial ≡ some t →
-            HoldsIn m result (noting (extend (extended reading (announcement cid name page last_page list) t)) (known self m.entry))) }
+            ((t : Source) → lookup page.entry.cid (known self m.entry).partial ≡ some t →
+            HoldsIn m result (noting (extend (extended reading (announcement page) t)) (known self m.entry))) }
     {
-        let count = self.page_count;
-        let used = self.used;
-        let n = list.len();
-        put_page(&mut *pages, &mut *universes, count, used, cid, page, list);
+        put_page(
+            pages,
+            universes,
+            self.page_count,
+            self.used,
+            page.cid,
+            page.page,
+            page.list,
+        );
         let row = sources[at];
-        let renewed = [row[0], row[1], row[2], row[3], reading, row[5]];
-        sources[at] = renewed;
+        sources[at] = [row[0], row[1], row[2], row[3], reading, row[5]];
         Discovery {
-            source_count: self.source_count,
-            page_count: count + 1,
-            used: used + n,
+            page_count: self.page_count + 1,
+            used: self.used + page.list.len(),
+            ..self
         }
     }
 
@@ -173,20 +167,10 @@ impl Discovery {
             ((t : Source) → lookup cid (known self m.entry).partial ≡ some t →
             HoldsIn m result (noting (list t) (known self m.entry))) }
     {
-        let d = self.drop_source(
-            &mut *sources,
-            &mut *names,
-            &mut *pages,
-            &mut *universes,
-            0,
-            1,
-            cid,
-        );
-        let count = d.source_count;
-        let page_count = d.page_count;
-        let at = find_source(&*sources, count, 0, cid);
-        turn_source(&mut *sources, &mut *names, count, at);
-        turn_pages(&mut *pages, page_count, cid);
+        let d = self.drop_source(sources, names, pages, universes, 0, 1, cid);
+        let at = find_source(sources, d.source_count, 0, cid);
+        turn_source(sources, names, d.source_count, at);
+        turn_pages(pages, d.page_count, cid);
         d
     }
 
@@ -199,65 +183,28 @@ impl Discovery {
         universes: &mut [u16],
         reading: u64,
         from: usize,
-        cid: Cid,
-        page: u8,
-        last_page: u8,
-        name: &[u8],
-        list: &[u16],
-    ) -> PageArrived
+        page: Page,
+    ) -> After<Discovery, PageAnswer>
         requires { Kept self sources.old names.old pages.old universes.old
-            × (self.page_count < capacity) × (length name.now ≤ most_name) × (length list.now ≤ most_universes)
-            × (any (is_head_of 0 cid) (heads_of self sources.old names.old) ≡ false)
-            × (from ≤ prefix (λ row. not (owned 1 cid row)) (take self.source_count sources.old)) }
+            × (self.page_count < capacity) × (length page.name.now ≤ most_name) × (length page.list.now ≤ most_universes)
+            × (any (is_head_of 0 page.cid) (heads_of self sources.old names.old) ≡ false)
+            × (from ≤ prefix (λ row. not (owned 1 page.cid row)) (take self.source_count sources.old)) }
         ensures { let m = lent sources names pages universes in
-            TookIn m result (taken reading (announcement cid name page last_page list) (known self m.entry)) }
+            TookIn m result (taken reading (announcement page) (known self m.entry)) }
     {
-        if page == 0 {
-            if last_page == 0 {
-                let d = self.drop_source(
-                    &mut *sources,
-                    &mut *names,
-                    &mut *pages,
-                    &mut *universes,
-                    from,
-                    1,
-                    cid,
-                );
-                let e = d.add_source(
-                    &mut *sources,
-                    &mut *names,
-                    &mut *pages,
-                    &mut *universes,
-                    reading,
-                    1,
-                    cid,
-                    page,
-                    last_page,
-                    name,
-                    list,
-                );
-                return PageArrived {
-                    discovery: e,
-                    answer: PageAnswer::Listed,
-                };
+        if page.page == 0 && page.last_page == 0 {
+            let d = self.drop_source(sources, names, pages, universes, from, 1, page.cid);
+            let left = d.add_source(sources, names, pages, universes, reading, 1, page);
+            After {
+                left,
+                answer: PageAnswer::Listed,
             }
-        }
-        let d = self.add_source(
-            &mut *sources,
-            &mut *names,
-            &mut *pages,
-            &mut *universes,
-            reading,
-            0,
-            cid,
-            page,
-            last_page,
-            name,
-            list,
-        );
-        PageArrived {
-            discovery: d,
-            answer: PageAnswer::Taken,
+        } else {
+            let left = self.add_source(sources, names, pages, universes, reading, 0, page);
+            After {
+                left,
+                answer: PageAnswer::Taken,
+            }
         }
     }
 
@@ -270,50 +217,27 @@ impl Discovery {
         universes: &mut [u16],
         reading: u64,
         at: usize,
-        cid: Cid,
-        page: u8,
-        last_page: u8,
-        name: &[u8],
-        list: &[u16],
-    ) -> PageArrived
+        page: Page,
+    ) -> After<Discovery, PageAnswer>
         requires { Kept self sources.old names.old pages.old universes.old
-            × (self.page_count < capacity) × (length name.now ≤ most_name) × (length list.now ≤ most_universes)
-            × (at ≡ prefix (λ row. not (owned 0 cid row)) (take self.source_count sources.old)) × (at < self.source_count) }
+            × (self.page_count < capacity) × (length page.name.now ≤ most_name) × (length page.list.now ≤ most_universes)
+            × (at ≡ prefix (λ row. not (owned 0 page.cid row)) (take self.source_count sources.old)) × (at < self.source_count) }
         ensures { let m = lent sources names pages universes in
-            TookIn m result (taken reading (announcement cid name page last_page list) (known self m.entry)) }
+            TookIn m result (taken reading (announcement page) (known self m.entry)) }
     {
-        let row = sources[at];
-        let first_last_page = row[3];
-        let d = self.extend_source(
-            &mut *sources,
-            &*names,
-            &mut *pages,
-            &mut *universes,
-            reading,
-            at,
-            cid,
-            page,
-            last_page,
-            name,
-            list,
-        );
-        let count = d.page_count;
-        if has_all_pages(&*pages, count, cid, first_last_page) {
-            let e = d.list_source(
-                &mut *sources,
-                &mut *names,
-                &mut *pages,
-                &mut *universes,
-                cid,
-            );
-            return PageArrived {
-                discovery: e,
+        let first_last_page = sources[at][3];
+        let d = self.extend_source(sources, names, pages, universes, reading, at, page);
+        if has_all_pages(pages, d.page_count, page.cid, first_last_page) {
+            let left = d.list_source(sources, names, pages, universes, page.cid);
+            After {
+                left,
                 answer: PageAnswer::Listed,
-            };
-        }
-        PageArrived {
-            discovery: d,
-            answer: PageAnswer::Taken,
+            }
+        } else {
+            After {
+                left: d,
+                answer: PageAnswer::Taken,
+            }
         }
     }
 
@@ -325,58 +249,30 @@ impl Discovery {
         pages: &mut PageRows,
         universes: &mut [u16],
         reading: u64,
-        cid: Cid,
-        page: u8,
-        last_page: u8,
-        name: &[u8],
-        list: &[u16],
-    ) -> PageArrived
+        page: Page,
+    ) -> After<Discovery, PageAnswer>
         requires { Kept self sources.old names.old pages.old universes.old
-            × (length name.now ≤ most_name) × (length list.now ≤ most_universes) }
+            × (length page.name.now ≤ most_name) × (length page.list.now ≤ most_universes) }
         ensures { let m = lent sources names pages universes in
-            ArrivalIn self m reading (announcement cid name page last_page list) result }
+            ArrivalIn self m reading (announcement page) result }
     {
-        let page_count = self.page_count;
-        if PAGES <= page_count {
-            return PageArrived {
-                discovery: self,
+        if PAGES <= self.page_count {
+            return After {
+                left: self,
                 answer: PageAnswer::PagesFull,
             };
         }
         let count = self.source_count;
-        let from = find_cid(&*sources, count, cid);
-        let at = find_from(&*sources, count, from, 0, cid);
+        let from = find_cid(sources, count, page.cid);
+        let at = find_from(sources, count, from, 0, page.cid);
         if count <= at {
-            return self.take_first(
-                &mut *sources,
-                &mut *names,
-                &mut *pages,
-                &mut *universes,
-                reading,
-                from,
-                cid,
-                page,
-                last_page,
-                name,
-                list,
-            );
+            self.take_first(sources, names, pages, universes, reading, from, page)
+        } else {
+            self.take_next(sources, names, pages, universes, reading, at, page)
         }
-        self.take_next(
-            &mut *sources,
-            &mut *names,
-            &mut *pages,
-            &mut *universes,
-            reading,
-            at,
-            cid,
-            page,
-            last_page,
-            name,
-            list,
-        )
     }
 
-    // A page arrives at this reading.
+    // A page arrives at this reading. Its answer is an enum of its own, as document 01 defines the number and the values of each case.
     pub fn page_arrives(
         self,
         sources: &mut HeadRows,
@@ -384,46 +280,31 @@ impl Discovery {
         pages: &mut PageRows,
         universes: &mut [u16],
         reading: u64,
-        cid: Cid,
-        page: u8,
-        last_page: u8,
-        name: &[u8],
-        list: &[u16],
-    ) -> PageCalled
+        page: Page,
+    ) -> After<Discovery, PageCall>
         requires { Kept self sources.old names.old pages.old universes.old }
         ensures { let m = lent sources names pages universes in
-            CalledIn self m reading (announcement cid name page last_page list) result }
+            CalledIn self m reading (announcement page) result }
     {
-        let length = name.len();
+        let length = page.name.len();
         if NAME < length {
-            return PageCalled {
-                discovery: self,
+            return After {
+                left: self,
                 answer: PageCall::TooLong(length),
             };
         }
-        let count = list.len();
+        let count = page.list.len();
         if PAGE_UNIVERSES < count {
-            return PageCalled {
-                discovery: self,
+            return After {
+                left: self,
                 answer: PageCall::TooLong(count),
             };
         }
-        let a = self.take_page(
-            &mut *sources,
-            &mut *names,
-            &mut *pages,
-            &mut *universes,
-            reading,
-            cid,
-            page,
-            last_page,
-            name,
-            list,
-        );
-        let discovery = a.discovery;
-        let said = a.answer;
-        let answer = PageCall::Done(said);
-        PageCalled { discovery, answer }
+        let a = self.take_page(sources, names, pages, universes, reading, page);
+        After {
+            left: a.left,
+            answer: PageCall::Done(a.answer),
+        }
     }
 
     // Nothing is known, whatever the lent memory holds.
@@ -458,12 +339,8 @@ impl Discovery {
         ensures { let m = lent_sources_shared sources names pages universes in
             HoldsIn m result (ended cid universe (known self m.entry)) }
     {
-        let used = cut_pages(&mut *pages, &mut *universes, self.page_count, cid, universe);
-        Discovery {
-            source_count: self.source_count,
-            page_count: self.page_count,
-            used: used,
-        }
+        let used = cut_pages(pages, universes, self.page_count, cid, universe);
+        Discovery { used, ..self }
     }
 
     // The sources of this age or older go, partial and listed.
@@ -481,23 +358,12 @@ impl Discovery {
             HoldsIn m result (swept time reading (known self m.entry)) }
     {
         let mut d = self;
-        let mut at = find_expired(&*sources, d.source_count, time, reading);
+        let mut at = find_expired(sources, d.source_count, time, reading);
         while at < d.source_count {
             let row = sources[at];
-            let cid = Cid {
-                hi: row[1],
-                lo: row[2],
-            };
-            d = d.drop_source(
-                &mut *sources,
-                &mut *names,
-                &mut *pages,
-                &mut *universes,
-                0,
-                row[0],
-                cid,
-            );
-            at = find_expired(&*sources, d.source_count, time, reading);
+            let cid = cid_of(&row);
+            d = d.drop_source(sources, names, pages, universes, 0, row[0], cid);
+            at = find_expired(sources, d.source_count, time, reading);
         }
         d
     }

@@ -12,7 +12,7 @@ turn_source-requires c =
     let g = c.find_source-at in
     let k = d.ensures.kept in
     let a = still_partial v.cid v.self v.sources.now v.names.now v.pages.now v.universes.now d.result d.new.sources d.new.names d.new.pages d.new.universes d.ensures s.requires.1 in
-    (k.within, omega (arith, g.ensures, found_inside 0 v.cid d.result d.new.sources d.new.names d.new.pages d.new.universes k a), k.source_rows, k.name_rows)
+    (k.within, omega (arith, g.ensures, found_inside 0 v.cid d.result d.new.sources d.new.names d.new.pages d.new.universes k a))
 
 pub returns : goal.returns
 returns c =
@@ -26,4 +26,4 @@ returns c =
     let a = still_partial v.cid v.self v.sources.now v.names.now v.pages.now v.universes.now d.result d.new.sources d.new.names d.new.pages d.new.universes d.ensures s.requires.1 in
     let h = found_inside 0 v.cid d.result d.new.sources d.new.names d.new.pages d.new.universes k a in
     list_done v.cid v.self v.sources.now v.names.now v.pages.now v.universes.now d.result d.new.sources d.new.names d.new.pages d.new.universes d.ensures g.result g.ensures (omega (arith, g.ensures, h)) x.new.sources x.new.names y.new.pages
-    x.ensures.0 x.ensures.1 y.ensures.0 x.ensures.2 x.ensures.3 y.ensures.1
+    (omega arith) (omega arith) (omega arith) x.ensures.0 x.ensures.1 y.ensures

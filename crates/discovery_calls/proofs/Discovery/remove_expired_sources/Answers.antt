@@ -7,7 +7,7 @@ use Rattle.discovery_calls.specs.Sweep.{sweep_done, sweep_mark, sweep_there, swe
 use Rattle.discovery_calls.proofs.Discovery.remove_expired_sources.Goals as goal
 
 pub find_expired-at-requires : goal.find_expired-at-requires
-find_expired-at-requires c = (c.requires.within, c.requires.source_rows)
+find_expired-at-requires c = c.requires.within
 
 pub loop-at-init : goal.loop-at-init
 loop-at-init c = (c.requires, refl, c.find_expired-at.ensures, lent_none c.args.universes.now)
@@ -22,7 +22,7 @@ drop_source-d-requires c =
 pub find_expired-at-requires-in-loop-at : goal.find_expired-at-requires-in-loop-at
 find_expired-at-requires-in-loop-at c =
     let x = c.drop_source-d in
-    (x.ensures.kept.within, x.ensures.kept.source_rows)
+    x.ensures.kept.within
 
 pub loop-at-smaller : goal.loop-at-smaller
 loop-at-smaller c =
@@ -30,7 +30,7 @@ loop-at-smaller c =
     let s = c in
     let v = s.args in
     let x = c.drop_source-d in
-    x.ensures.shrunk (sweep_there v.time v.reading w.d w.sources w.names w.pages w.universes w.invariant.0 w.at w.invariant.2 c.loop-at-test.true)
+    x.ensures.shrunk (rw c.cid_of-cid.ensures (sweep_there v.time v.reading w.d w.sources w.names w.pages w.universes w.invariant.0 w.at w.invariant.2 c.loop-at-test.true))
 
 pub loop-at-preserved : goal.loop-at-preserved
 loop-at-preserved c =
@@ -39,7 +39,7 @@ loop-at-preserved c =
     let v = s.args in
     let x = c.drop_source-d in (
       x.ensures.kept,
-      sweep_turn v.time v.reading w.d w.sources w.names w.pages w.universes w.invariant.0 w.at w.invariant.2 c.loop-at-test.true x.result x.new.sources x.new.names x.new.pages x.new.universes x.ensures ∙ w.invariant.1,
+      sweep_turn v.time v.reading w.d w.sources w.names w.pages w.universes w.invariant.0 w.at w.invariant.2 c.loop-at-test.true x.result x.new.sources x.new.names x.new.pages x.new.universes (rw c.cid_of-cid.ensures at x.ensures) ∙ w.invariant.1,
       c.find_expired-at-in-loop-at.ensures,
       lent_then w.invariant.3 x.ensures.lent,
     )
