@@ -1,6 +1,6 @@
 -- Document 02, F-6: what is written reads back alike; what is read, written again, is what it was. By the facts on fields in general, for both layouts.
 -- Assumes nothing.
-use Rattle.std.specs.Prelude.{◌≡◌, refl, Bool, true, false, List, [], ◌∷◌, ◌++◌, ℕ, zero, suc, ◌≤◌, ◌<◌, eqb, ltb, leb, length, take, drop, get_or}
+use Rattle.std.specs.Prelude.{Result, Ok, Err, ◌≡◌, refl, Bool, true, false, List, [], ◌∷◌, ◌++◌, ℕ, zero, suc, ◌≤◌, ◌<◌, eqb, ltb, leb, length, take, drop, get_or}
 use Rattle.std.proofs.Common.{sym, ap, ◌∙◌, arith, length-append, take-append-drop, take_at, eqb-true, ne_eqb, ltb-false, le-ltb, leb-true}
 use Rattle.std.proofs.Math.Option.{none, some}
 use Rattle.std.proofs.lemmas.Bool.{eqb-false}
@@ -17,9 +17,9 @@ use Rattle.settings.specs.Settings.{settings, in_range, Proper, ProperLimit}
 use Rattle.settings.proofs.SettingsLaws.{range_proper, proper_range}
 use Rattle.settings_store.specs.declared.Layouts.{Layouts}
 use Rattle.settings_store.specs.declared.Layouts.TheVariants.{First, Both}
-use Rattle.settings_store.specs.declared.StoreSettingsAnswer.{StoreSettingsAnswer}
-use Rattle.settings_store.specs.declared.StoreSettingsAnswer.TheVariants.{Stored, TooShort, LimitZero, ExpiryOutOfRange}
-use Rattle.settings_store.specs.declared.LoadSettingsAnswer.TheVariants.{Loaded, NoSettingsRecord, UnreadableSettingsRecord}
+use Rattle.settings_store.specs.declared.StoreSettingsError.{StoreSettingsError}
+use Rattle.settings_store.specs.declared.StoreSettingsError.TheVariants.{TooShort, LimitZero, ExpiryOutOfRange}
+use Rattle.settings_store.specs.declared.LoadSettingsError.TheVariants.{NoSettingsRecord, UnreadableSettingsRecord}
 use Rattle.settings_store.specs.Record.{expiry, layout_1, layout_2, merge_number, merge_of, limit_number, limit_of, values_of, settings_from, record_of, record_length, zero_limit, store_answer, left_by, store_bytes, fields_of, marked, shown, loaded, Restores, as_layout_2, Rewrites}
 use Rattle.settings_store.specs.Laws.{Narrow}
 
@@ -134,7 +134,7 @@ module _ (s : Settings) (n : Narrow s) (z : zero_limit s.source_limit ≡ false)
         refused = λ rest. ap (λ (l : List ℕ). loaded First (l ++ rest)) e ∙ whole_refused rest;
       }
     where
-      whole_alike : (rest : List ℕ) → loaded Both (record_of s ++ rest) ≡ Loaded s
+      whole_alike : (rest : List ℕ) → loaded Both (record_of s ++ rest) ≡ Ok s
       whole_alike rest =
           let fit = values_fit s n r in
           let fields = encode layout_2 (values_of s) ++ rest in
@@ -142,19 +142,19 @@ module _ (s : Settings) (n : Narrow s) (z : zero_limit s.source_limit ≡ false)
           let enough : size layout_2 ≤ length fields = omega (arith, length-append (encode layout_2 (values_of s)) rest, length_encode layout_2 (values_of s) fit) in
           rw (le-ltb (length (record_of s ++ rest)) 3 three, le-ltb (length fields) (size layout_2) enough, decode_encode layout_2 (values_of s) rest fit, settings_back s z)
 
-      whole_refused : (rest : List ℕ) → loaded First (record_of s ++ rest) ≡ UnreadableSettingsRecord
+      whole_refused : (rest : List ℕ) → loaded First (record_of s ++ rest) ≡ Err UnreadableSettingsRecord
       whole_refused rest = let three : 3 ≤ length (record_of s ++ rest) = omega arith in rw (le-ltb (length (record_of s ++ rest)) 3 three)
 
 -- the writer's tests, all passed
-module _ (s : Settings) (n : ℕ) (h : store_answer s n ≡ Stored) where
+module _ (s : Settings) (n : ℕ) (h : store_answer s n ≡ Ok tt) where
   pub stored_room : record_length ≤ n
-  stored_room = split (ltb n record_length) (λ e. let y : TooShort record_length ≡ Stored = rw e at h in let x : ◌≡◌ {A = ℕ} 0 1 = cc in absurd (omega arith)) (λ e. ltb-false n record_length e)
+  stored_room = split (ltb n record_length) (λ e. let y : Err (TooShort record_length) ≡ Ok tt = rw e at h in let x : ◌≡◌ {A = ℕ} 0 1 = cc in absurd (omega arith)) (λ e. ltb-false n record_length e)
 
   pub stored_limit : zero_limit s.source_limit ≡ false
   stored_limit =
       let e = le-ltb n record_length stored_room in
       split (zero_limit s.source_limit)
-      (λ z. let y : LimitZero ≡ Stored = rw (e, z) at h in let x : ◌≡◌ {A = ℕ} 0 1 = cc in absurd (omega arith))
+      (λ z. let y : Err LimitZero ≡ Ok tt = rw (e, z) at h in let x : ◌≡◌ {A = ℕ} 0 1 = cc in absurd (omega arith))
       (λ z. z)
 
   pub stored_range : in_range s.discovery_expiry ≡ true
@@ -162,24 +162,22 @@ module _ (s : Settings) (n : ℕ) (h : store_answer s n ≡ Stored) where
       let e = le-ltb n record_length stored_room in
       split (in_range s.discovery_expiry)
       (λ r. r)
-      (λ r. let y : ExpiryOutOfRange ≡ Stored = rw (e, stored_limit, r) at h in let x : ◌≡◌ {A = ℕ} 0 1 = cc in absurd (omega arith))
+      (λ r. let y : Err ExpiryOutOfRange ≡ Ok tt = rw (e, stored_limit, r) at h in let x : ◌≡◌ {A = ℕ} 0 1 = cc in absurd (omega arith))
 
 -- "Whatever settings were stored come out again alike": for all settings at which the writer does not stop, whatever bytes are lent
-pub stored_restores : (s : Settings) (before : List ℕ) → Narrow s → store_answer s (length before) ≡ Stored → Restores s (store_bytes s before)
+pub stored_restores : (s : Settings) (before : List ℕ) → Narrow s → store_answer s (length before) ≡ Ok tt → Restores s (store_bytes s before)
 stored_restores s before n h = rw h (record_restores s n (stored_limit s (length before) h) (stored_range s (length before) h) (drop record_length before))
 
 -- the bytes as they were left among them
-pub restored_left : (s : Settings) (bytes : List ℕ) → Restores s bytes → (loaded Both bytes ≡ Loaded s) × (loaded First bytes ≡ UnreadableSettingsRecord)
+pub restored_left : (s : Settings) (bytes : List ℕ) → Restores s bytes → (loaded Both bytes ≡ Ok s) × (loaded First bytes ≡ Err UnreadableSettingsRecord)
 restored_left s bytes h = (rw (take-append-drop record_length bytes) at (h.alike (drop record_length bytes)), rw (take-append-drop record_length bytes) at (h.refused (drop record_length bytes)))
 
--- each of the three stops writes nothing
-stops_left : (r : StoreSettingsAnswer) (s : Settings) (before : List ℕ) → (r ≡ Stored → ⊥) → left_by r s before ≡ before
-stops_left Stored s before h = absurd (h refl)
-stops_left (TooShort n) s before h = refl
-stops_left LimitZero s before h = refl
-stops_left ExpiryOutOfRange s before h = refl
+-- a stop, whichever of the three, writes nothing
+stops_left : (r : Result Unit StoreSettingsError) (s : Settings) (before : List ℕ) → (r ≡ Ok tt → ⊥) → left_by r s before ≡ before
+stops_left (Ok u) s before h = absurd (h refl)
+stops_left (Err e) s before h = refl
 
-pub stopped_left : (s : Settings) (before : List ℕ) → (store_answer s (length before) ≡ Stored → ⊥) → store_bytes s before ≡ before
+pub stopped_left : (s : Settings) (before : List ℕ) → (store_answer s (length before) ≡ Ok tt → ⊥) → store_bytes s before ≡ before
 stopped_left s before h = stops_left (store_answer s (length before)) s before h
 
 -- ── both layouts by the facts on fields ──
@@ -200,25 +198,25 @@ behind_unread layouts (a ∷ b ∷ c ∷ l) rest fs t f h =
 
 -- ── read, and written again ──
 -- settings that were shown are those of the values that were decoded
-shown_values {ℓ} : {C : Type ℓ} (d : Decoded) (s : Settings) → shown d ≡ Loaded s → ((vs : List ℕ) → d ≡ values vs → s ≡ settings_from vs → C) → C
+shown_values {ℓ} : {C : Type ℓ} (d : Decoded) (s : Settings) → shown d ≡ Ok s → ((vs : List ℕ) → d ≡ values vs → s ≡ settings_from vs → C) → C
 shown_values (values vs) s h k = k vs refl (cc)
 shown_values short s h k = let x : ◌≡◌ {A = ℕ} 0 1 = cc in absurd (omega arith)
 shown_values out_of_range s h k = let x : ◌≡◌ {A = ℕ} 0 1 = cc in absurd (omega arith)
 
 -- what a reader that took a record found
-module _ {ℓ} {C : Type ℓ} (layouts : Layouts) (bytes : List ℕ) (s : Settings) (h : loaded layouts bytes ≡ Loaded s) where
+module _ {ℓ} {C : Type ℓ} (layouts : Layouts) (bytes : List ℕ) (s : Settings) (h : loaded layouts bytes ≡ Ok s) where
   taken : ((fs : List Field) (vs : List ℕ) → 3 ≤ length bytes → marked bytes ≡ true → fields_of layouts (get_or bytes 2 0) ≡ some fs → decode fs (drop 3 bytes) ≡ values vs → s ≡ settings_from vs → C) → C
   taken k =
       let rest = drop 3 bytes in
       split (ltb (length bytes) 3)
-      (λ e. let y : NoSettingsRecord ≡ Loaded s = rw e at h in let x : ◌≡◌ {A = ℕ} 0 1 = cc in absurd (omega arith))
+      (λ e. let y : Err NoSettingsRecord ≡ Ok s = rw e at h in let x : ◌≡◌ {A = ℕ} 0 1 = cc in absurd (omega arith))
       (λ e. split (marked bytes)
       (λ m. found (fields_of layouts (get_or bytes 2 0))
-      (λ f. let y : UnreadableSettingsRecord ≡ Loaded s = rw (e, m, f) at h in let x : ◌≡◌ {A = ℕ} 0 1 = cc in absurd (omega arith))
+      (λ f. let y : Err UnreadableSettingsRecord ≡ Ok s = rw (e, m, f) at h in let x : ◌≡◌ {A = ℕ} 0 1 = cc in absurd (omega arith))
       (λ fs f. split (ltb (length rest) (size fs))
-      (λ l. let y : NoSettingsRecord ≡ Loaded s = rw (e, m, f, l) at h in let x : ◌≡◌ {A = ℕ} 0 1 = cc in absurd (omega arith))
+      (λ l. let y : Err NoSettingsRecord ≡ Ok s = rw (e, m, f, l) at h in let x : ◌≡◌ {A = ℕ} 0 1 = cc in absurd (omega arith))
       (λ l. shown_values (decode fs rest) s (rw (e, m, f, l) at h) (λ vs d q. k fs vs (ltb-false (length bytes) 3 e) m f d q))))
-      (λ m. let y : NoSettingsRecord ≡ Loaded s = rw (e, m) at h in let x : ◌≡◌ {A = ℕ} 0 1 = cc in absurd (omega arith)))
+      (λ m. let y : Err NoSettingsRecord ≡ Ok s = rw (e, m) at h in let x : ◌≡◌ {A = ℕ} 0 1 = cc in absurd (omega arith)))
 
 -- a known layout is one of two
 known {ℓ} : {C : Type ℓ} (layouts : Layouts) (n : ℕ) (fs : List Field) → fields_of layouts n ≡ some fs → (n ≡ 1 → fs ≡ layout_1 → C) → (n ≡ 2 → fs ≡ layout_2 → C) → C
@@ -244,7 +242,7 @@ three_bytes (a ∷ b ∷ c ∷ rest) h m e =
     (λ x. let y : false ≡ true = rw x at m in clash y refl)
 
 -- a record that was taken, of either layout: values of layout 2 whose bytes those are
-module _ {ℓ} {C : Type ℓ} (layouts : Layouts) (bytes : List ℕ) (s : Settings) (p : Bytes (drop 3 bytes)) (h : loaded layouts bytes ≡ Loaded s) where
+module _ {ℓ} {C : Type ℓ} (layouts : Layouts) (bytes : List ℕ) (s : Settings) (p : Bytes (drop 3 bytes)) (h : loaded layouts bytes ≡ Ok s) where
   taken_as_2 : ((ws : List ℕ) → Fit layout_2 ws → s ≡ settings_from ws → encode layout_2 ws ≡ as_layout_2 (get_or bytes 2 0) (drop 3 bytes) → C) → C
   taken_as_2 k =
       let rest = drop 3 bytes in
@@ -260,7 +258,7 @@ module _ {ℓ} {C : Type ℓ} (layouts : Layouts) (bytes : List ℕ) (s : Settin
       let d' : decode layout_2 rest ≡ values vs = rw e at d in
       k vs (decode_fits layout_2 rest vs p d') q (rw n (encode_decode layout_2 rest vs p d'))))
 
-module _ (layouts : Layouts) (bytes : List ℕ) (s : Settings) (p : Bytes (drop 3 bytes)) (h : loaded layouts bytes ≡ Loaded s) where
+module _ (layouts : Layouts) (bytes : List ℕ) (s : Settings) (p : Bytes (drop 3 bytes)) (h : loaded layouts bytes ≡ Ok s) where
   -- settings that were read are such as the setters leave
   pub taken_proper : Proper s
   taken_proper = taken_as_2 layouts bytes s p h (λ ws fit q e. rw q (values_proper ws fit))
@@ -271,11 +269,11 @@ module _ (layouts : Layouts) (bytes : List ℕ) (s : Settings) (p : Bytes (drop 
       taken_again : record_of s ≡ 0x53 ∷ 0x54 ∷ 2 ∷ as_layout_2 (get_or bytes 2 0) (drop 3 bytes)
       taken_again = taken_as_2 layouts bytes s p h (λ ws fit q e. rw (q, values_back ws fit, e))
 
-      taken_stored : (n : ℕ) → record_length ≤ n → store_answer s n ≡ Stored
+      taken_stored : (n : ℕ) → record_length ≤ n → store_answer s n ≡ Ok tt
       taken_stored n h = rw (le-ltb n record_length h, proper_limit s.source_limit taken_proper.0, proper_range s.discovery_expiry taken_proper.1)
 
 -- a record of layout 2 is written again byte for byte
-pub taken_same : (bytes : List ℕ) (s : Settings) → Bytes (drop 3 bytes) → loaded Both bytes ≡ Loaded s → get_or bytes 2 0 ≡ 2 → record_of s ≡ take record_length bytes
+pub taken_same : (bytes : List ℕ) (s : Settings) → Bytes (drop 3 bytes) → loaded Both bytes ≡ Ok s → get_or bytes 2 0 ≡ 2 → record_of s ≡ take record_length bytes
 taken_same bytes s p h two =
     taken Both bytes s h
     (λ fs vs three m f d q.

@@ -1,6 +1,6 @@
 -- Document 02, F-6: settings in lent bytes. "A record is the mark 53 54 (hexadecimal), a layout byte, then the fields. .. Numbers are big-endian."
 -- Assumes nothing.
-use Rattle.std.specs.Prelude.{◌≡◌, refl, true, false, List, [], ◌∷◌, ◌++◌, map, ℕ, length, replicate}
+use Rattle.std.specs.Prelude.{Ok, Err, ◌≡◌, refl, true, false, List, [], ◌∷◌, ◌++◌, map, ℕ, length, replicate}
 use Rattle.rules.specs.Bytes.{number, big_endian}
 use Rattle.fields.specs.Fields.{size, encode, decode}
 use Rattle.settings.specs.declared.MergeChoice.TheVariants.{DiscardLowestPriorityThenPrevious, HtpDmxMerge}
@@ -8,8 +8,7 @@ use Rattle.settings.specs.declared.SourceLimit.{SourceLimit}
 use Rattle.settings.specs.declared.SourceLimit.TheVariants.{Unlimited, AtMost}
 use Rattle.settings.specs.Settings.{settings, fresh}
 use Rattle.settings_store.specs.declared.Layouts.TheVariants.{First, Both}
-use Rattle.settings_store.specs.declared.StoreSettingsAnswer.TheVariants.{TooShort}
-use Rattle.settings_store.specs.declared.LoadSettingsAnswer.TheVariants.{Loaded}
+use Rattle.settings_store.specs.declared.StoreSettingsError.TheVariants.{TooShort}
 use Rattle.settings_store.specs.Record.{load_number, loaded, record_length, record_of, store_answer, store_bytes, store_number}
 
 -- ── in numbers: every row is computed, and stands before the laws ──
@@ -54,7 +53,7 @@ unfolding written
 store_range = refl
 
 -- "15 with 14", and the length is the record's
-store_needs : (store_answer fresh 13 ≡ TooShort 14) × (length (record_of fresh) ≡ record_length)
+store_needs : (store_answer fresh 13 ≡ Err (TooShort 14)) × (length (record_of fresh) ≡ record_length)
 unfolding encode big_endian
 store_needs = (refl, refl)
 
@@ -116,10 +115,10 @@ load_taken : map (loaded Both)
     ∷ (0x53 ∷ 0x54 ∷ 1 ∷ 0 ∷ 0 ∷ 1 ∷ 0 ∷ 0 ∷ 2 ∷ 1 ∷ 0xFF ∷ 0xFF ∷ [])
     ∷ (0x53 ∷ 0x54 ∷ 2 ∷ 1 ∷ 0 ∷ 0 ∷ 0 ∷ 0 ∷ 0 ∷ 0 ∷ 0 ∷ 0 ∷ 0x09 ∷ 0xC4 ∷ [])
     ∷ (0x53 ∷ 0x54 ∷ 2 ∷ 0 ∷ 0 ∷ 0 ∷ 1 ∷ 1 ∷ 0xFF ∷ 0xFF ∷ 0 ∷ 0 ∷ 0xEA ∷ 0x60 ∷ 2 ∷ []) ∷ [])
-    ≡ Loaded (settings false true false false HtpDmxMerge Unlimited 20000)
-    ∷ Loaded (settings false false true false DiscardLowestPriorityThenPrevious (AtMost 513) 20000)
-    ∷ Loaded (settings true false false false DiscardLowestPriorityThenPrevious Unlimited 2500)
-    ∷ Loaded (settings false false false true HtpDmxMerge (AtMost 65535) 60000) ∷ []
+    ≡ Ok (settings false true false false HtpDmxMerge Unlimited 20000)
+    ∷ Ok (settings false false true false DiscardLowestPriorityThenPrevious (AtMost 513) 20000)
+    ∷ Ok (settings true false false false DiscardLowestPriorityThenPrevious Unlimited 2500)
+    ∷ Ok (settings false false false true HtpDmxMerge (AtMost 65535) 60000) ∷ []
 unfolding decode number size
 load_taken = refl
 

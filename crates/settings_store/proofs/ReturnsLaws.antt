@@ -1,6 +1,6 @@
 -- A record byte by byte, as code writes and reads it: one law for each return of the writer and of the reader.
 -- Assumes nothing.
-use Rattle.std.specs.Prelude.{◌≡◌, refl, Bool, true, false, cond, ◌&&◌, List, [], ◌∷◌, ◌++◌, ℕ, suc, ◌/◌, ◌%◌, ◌≤◌, ◌<◌, length, drop, get_or}
+use Rattle.std.specs.Prelude.{Result, Ok, Err, ◌≡◌, refl, Bool, true, false, cond, ◌&&◌, List, [], ◌∷◌, ◌++◌, ℕ, suc, ◌/◌, ◌%◌, ◌≤◌, ◌<◌, length, drop, get_or}
 use Rattle.std.proofs.Common.{sym, ap, ◌∙◌, arith, div-one, mod-eq_of_lt, length-drop, get_or-drop, eq-eqb, ne_eqb, lt-ltb, le-ltb}
 use Rattle.std.proofs.Math.Option.{Option, none, some}
 use Rattle.laws.specs.Cases.{split}
@@ -11,10 +11,10 @@ use Rattle.settings.specs.declared.Settings.{Settings}
 use Rattle.settings.specs.Settings.{in_range}
 use Rattle.settings_store.specs.declared.Layouts.{Layouts}
 use Rattle.settings_store.specs.declared.Layouts.TheVariants.{First, Both}
-use Rattle.settings_store.specs.declared.StoreSettingsAnswer.{StoreSettingsAnswer}
-use Rattle.settings_store.specs.declared.StoreSettingsAnswer.TheVariants.{Stored, TooShort, LimitZero, ExpiryOutOfRange}
-use Rattle.settings_store.specs.declared.LoadSettingsAnswer.{LoadSettingsAnswer}
-use Rattle.settings_store.specs.declared.LoadSettingsAnswer.TheVariants.{Loaded, NoSettingsRecord, UnreadableSettingsRecord}
+use Rattle.settings_store.specs.declared.StoreSettingsError.{StoreSettingsError}
+use Rattle.settings_store.specs.declared.StoreSettingsError.TheVariants.{TooShort, LimitZero, ExpiryOutOfRange}
+use Rattle.settings_store.specs.declared.LoadSettingsError.{LoadSettingsError}
+use Rattle.settings_store.specs.declared.LoadSettingsError.TheVariants.{NoSettingsRecord, UnreadableSettingsRecord}
 use Rattle.settings_store.specs.Record.{flag, limit, expiry, layout_1, layout_2, merge_number, limit_number, settings_from, record_of, record_length, zero_limit, store_answer, fields_of, marked, shown, of_layout, loaded, Stores, Loads}
 use Rattle.settings_store.specs.Laws.{Narrow}
 use Rattle.settings_store.proofs.Laws.{bit_small, merge_small, record_restores, stopped_left, eleven_long, taken_proper, taken_rewrites}
@@ -53,26 +53,26 @@ record_is s =
 
 -- each return of the writer
 module _ (s : Settings) (before : List ℕ) where
-  stops : (r : StoreSettingsAnswer) → store_answer s (length before) ≡ r → (r ≡ Stored → ⊥) → Stores s before r before
+  stops : (r : Result Unit StoreSettingsError) → store_answer s (length before) ≡ r → (r ≡ Ok tt → ⊥) → Stores s before r before
   stops r e n = record {
     answer_is = sym e;
     bytes_are = sym (stopped_left s before (λ q. n (sym e ∙ q)));
     restores = λ q. absurd (n q);
   }
 
-  pub stores_short : length before < record_length → Stores s before (TooShort record_length) before
-  stores_short h = stops (TooShort record_length) (rw (lt-ltb (length before) record_length h)) (λ q. let x : ◌≡◌ {A = ℕ} 0 1 = cc in omega arith)
+  pub stores_short : length before < record_length → Stores s before (Err (TooShort record_length)) before
+  stores_short h = stops (Err (TooShort record_length)) (rw (lt-ltb (length before) record_length h)) (λ q. let x : ◌≡◌ {A = ℕ} 0 1 = cc in omega arith)
 
-  pub stores_zero : record_length ≤ length before → zero_limit s.source_limit ≡ true → Stores s before LimitZero before
-  stores_zero h z = stops LimitZero (rw (le-ltb (length before) record_length h, z)) (λ q. let x : ◌≡◌ {A = ℕ} 0 1 = cc in omega arith)
+  pub stores_zero : record_length ≤ length before → zero_limit s.source_limit ≡ true → Stores s before (Err LimitZero) before
+  stores_zero h z = stops (Err LimitZero) (rw (le-ltb (length before) record_length h, z)) (λ q. let x : ◌≡◌ {A = ℕ} 0 1 = cc in omega arith)
 
-  pub stores_out : record_length ≤ length before → zero_limit s.source_limit ≡ false → in_range s.discovery_expiry ≡ false → Stores s before ExpiryOutOfRange before
-  stores_out h z r = stops ExpiryOutOfRange (rw (le-ltb (length before) record_length h, z, r)) (λ q. let x : ◌≡◌ {A = ℕ} 0 1 = cc in omega arith)
+  pub stores_out : record_length ≤ length before → zero_limit s.source_limit ≡ false → in_range s.discovery_expiry ≡ false → Stores s before (Err ExpiryOutOfRange) before
+  stores_out h z r = stops (Err ExpiryOutOfRange) (rw (le-ltb (length before) record_length h, z, r)) (λ q. let x : ◌≡◌ {A = ℕ} 0 1 = cc in omega arith)
 
   pub stores_record : (written after : List ℕ) → record_length ≤ length before → zero_limit s.source_limit ≡ false → in_range s.discovery_expiry ≡ true
-      → (written ≡ record_of s) × Narrow s → after ≡ written ++ drop record_length before → Stores s before Stored after
+      → (written ≡ record_of s) × Narrow s → after ≡ written ++ drop record_length before → Stores s before (Ok tt) after
   stores_record written after h z r w a =
-      let e : store_answer s (length before) ≡ Stored = rw (le-ltb (length before) record_length h, z, r) in
+      let e : store_answer s (length before) ≡ Ok tt = rw (le-ltb (length before) record_length h, z, r) in
       record {
         answer_is = sym e;
         bytes_are = rw e (cc);
@@ -165,26 +165,26 @@ module _ (bs : List ℕ) (h : 7 ≤ length bs) where
 
   pub with_taken : (e l : ℕ) (s : Settings) → flags_in ≡ true → l ≡ number (get_or bs 5 0 ∷ get_or bs 6 0 ∷ [])
       → s ≡ settings_from (get_or bs 0 0 ∷ get_or bs 1 0 ∷ get_or bs 2 0 ∷ get_or bs 3 0 ∷ get_or bs 4 0 ∷ l ∷ e ∷ [])
-      → Loaded s ≡ shown (joined (decode layout_1 bs) (values (e ∷ [])))
+      → Ok s ≡ shown (joined (decode layout_1 bs) (values (e ∷ [])))
   with_taken e l s f n q = rw (decode_first bs h, f, q, n)
 
-  pub with_refused : (e : ℕ) → flags_in ≡ false → UnreadableSettingsRecord ≡ shown (joined (decode layout_1 bs) (values (e ∷ [])))
+  pub with_refused : (e : ℕ) → flags_in ≡ false → Err UnreadableSettingsRecord ≡ shown (joined (decode layout_1 bs) (values (e ∷ [])))
   with_refused e f = rw (decode_first bs h, f)
 
   pub first_read : of_layout (some layout_1) bs ≡ shown (joined (decode layout_1 bs) (values (20000 ∷ [])))
   first_read = rw (seven_long, le-ltb (length bs) 7 h, decode_first bs h) (split flags_in (λ f. rw f) (λ f. rw f))
 
-pub first_short : (bs : List ℕ) → length bs < 7 → of_layout (some layout_1) bs ≡ NoSettingsRecord
+pub first_short : (bs : List ℕ) → length bs < 7 → of_layout (some layout_1) bs ≡ Err NoSettingsRecord
 first_short bs h = rw (seven_long, lt-ltb (length bs) 7 h)
 
-pub second_short : (bs : List ℕ) → length bs < 11 → of_layout (some layout_2) bs ≡ NoSettingsRecord
+pub second_short : (bs : List ℕ) → length bs < 11 → of_layout (some layout_2) bs ≡ Err NoSettingsRecord
 second_short bs h = rw (eleven_long, lt-ltb (length bs) 11 h)
 
 module _ (bs : List ℕ) (h : 11 ≤ length bs) (n : ℕ) (e : n ≡ number (get_or bs 7 0 ∷ get_or bs 8 0 ∷ get_or bs 9 0 ∷ get_or bs 10 0 ∷ [])) where
   pub second_read : in_range n ≡ true → of_layout (some layout_2) bs ≡ shown (joined (decode layout_1 bs) (values (n ∷ [])))
   second_read r = rw (eleven_long, le-ltb (length bs) 11 h, decode_second bs h, sym e, r)
 
-  pub second_out : in_range n ≡ false → of_layout (some layout_2) bs ≡ UnreadableSettingsRecord
+  pub second_out : in_range n ≡ false → of_layout (some layout_2) bs ≡ Err UnreadableSettingsRecord
   second_out r = rw (eleven_long, le-ltb (length bs) 11 h, decode_second bs h, sym e, r, decode_first bs (omega arith)) (split (flags_in bs (omega arith)) (λ f. rw f) (λ f. rw f))
 
 -- a list of bytes, if each is one
@@ -194,20 +194,20 @@ all_bytes (b ∷ l) h = (h 0, all_bytes l (λ i. h (suc i)))
 
 -- and of the reader
 module _ (layouts : Layouts) (bytes : List ℕ) where
-  stopped : NoSettingsRecord ≡ loaded layouts bytes → Loads layouts bytes NoSettingsRecord
+  stopped : Err NoSettingsRecord ≡ loaded layouts bytes → Loads layouts bytes (Err NoSettingsRecord)
   stopped e = record {
     answer_is = e;
     proper = λ s q. let x : ◌≡◌ {A = ℕ} 0 1 = cc in absurd (omega arith);
     again = λ s q. let x : ◌≡◌ {A = ℕ} 0 1 = cc in absurd (omega arith);
   }
 
-  pub loads_short : length bytes < 3 → Loads layouts bytes NoSettingsRecord
+  pub loads_short : length bytes < 3 → Loads layouts bytes (Err NoSettingsRecord)
   loads_short h = stopped (rw (lt-ltb (length bytes) 3 h))
 
-  pub loads_unmarked : 3 ≤ length bytes → marked bytes ≡ false → Loads layouts bytes NoSettingsRecord
+  pub loads_unmarked : 3 ≤ length bytes → marked bytes ≡ false → Loads layouts bytes (Err NoSettingsRecord)
   loads_unmarked h m = stopped (rw (le-ltb (length bytes) 3 h, m))
 
-  pub loads_fields : (r : LoadSettingsAnswer) (fs : Option (List Field)) → Bytes (drop 3 bytes) → 3 ≤ length bytes → marked bytes ≡ true → fs ≡ fields_of layouts (get_or bytes 2 0)
+  pub loads_fields : (r : Result Settings LoadSettingsError) (fs : Option (List Field)) → Bytes (drop 3 bytes) → 3 ≤ length bytes → marked bytes ≡ true → fs ≡ fields_of layouts (get_or bytes 2 0)
       → r ≡ of_layout fs (drop 3 bytes) → Loads layouts bytes r
   loads_fields r fs p h m f e =
       let q : r ≡ loaded layouts bytes = e ∙ ap (λ (x : Option (List Field)). of_layout x (drop 3 bytes)) f ∙ (rw (le-ltb (length bytes) 3 h, m)) in

@@ -1,6 +1,6 @@
 -- Document 02, F-6: settings in lent bytes. "A record is the mark 53 54 (hexadecimal), a layout byte, then the fields. .. Numbers are big-endian."
 -- Assumes nothing.
-use Rattle.std.specs.Prelude.{◌≡◌, Bool, true, false, cond, not, ◌&&◌, List, [], ◌∷◌, ◌++◌, ℕ, ◌≤◌, eqb, ltb, leb, length, take, drop, get_or}
+use Rattle.std.specs.Prelude.{Result, Ok, Err, ◌≡◌, Bool, true, false, cond, not, ◌&&◌, List, [], ◌∷◌, ◌++◌, ℕ, ◌≤◌, eqb, ltb, leb, length, take, drop, get_or}
 use Rattle.std.proofs.Math.Option.{Option, none, some}
 use Rattle.rules.specs.Answer.{Value}
 use Rattle.rules.specs.Answer as answer
@@ -14,10 +14,10 @@ use Rattle.settings.specs.declared.SourceLimit.TheVariants.{Unlimited, AtMost}
 use Rattle.settings.specs.Settings.{settings, in_range, Proper}
 use Rattle.settings_store.specs.declared.Layouts.{Layouts}
 use Rattle.settings_store.specs.declared.Layouts.TheVariants.{First, Both}
-use Rattle.settings_store.specs.declared.StoreSettingsAnswer.{StoreSettingsAnswer}
-use Rattle.settings_store.specs.declared.StoreSettingsAnswer.TheVariants.{Stored, TooShort, LimitZero, ExpiryOutOfRange}
-use Rattle.settings_store.specs.declared.LoadSettingsAnswer.{LoadSettingsAnswer}
-use Rattle.settings_store.specs.declared.LoadSettingsAnswer.TheVariants.{Loaded, NoSettingsRecord, UnreadableSettingsRecord}
+use Rattle.settings_store.specs.declared.StoreSettingsError.{StoreSettingsError}
+use Rattle.settings_store.specs.declared.StoreSettingsError.TheVariants.{TooShort, LimitZero, ExpiryOutOfRange}
+use Rattle.settings_store.specs.declared.LoadSettingsError.{LoadSettingsError}
+use Rattle.settings_store.specs.declared.LoadSettingsError.TheVariants.{NoSettingsRecord, UnreadableSettingsRecord}
 
 -- ── the fields ──
 -- "one byte each, 0 or 1"; "the merge choice (one byte, 0 by priority, 1 by highest value)"
@@ -90,19 +90,17 @@ zero_limit Unlimited = false
 zero_limit (AtMost n) = eqb n 0
 
 -- "The writer gives 15 for too few lent bytes, then 14 for a limit of 0, then 20 for an expiry outside its range"; n bytes are lent
-abbrev pub store_answer : Settings → ℕ → StoreSettingsAnswer
+abbrev pub store_answer : Settings → ℕ → Result Unit StoreSettingsError
 store_answer s n =
-    cond (ltb n record_length) (TooShort record_length)
-    (cond (zero_limit s.source_limit) LimitZero
-    (cond (in_range s.discovery_expiry) Stored
-    ExpiryOutOfRange))
+    cond (ltb n record_length) (Err (TooShort record_length))
+    (cond (zero_limit s.source_limit) (Err LimitZero)
+    (cond (in_range s.discovery_expiry) (Ok tt)
+    (Err ExpiryOutOfRange)))
 
 -- ".. and then writes nothing"; "Bytes after the last field are .. not written"
-abbrev pub left_by : StoreSettingsAnswer → Settings → List ℕ → List ℕ
-left_by Stored s before = record_of s ++ drop record_length before
-left_by (TooShort n) s before = before
-left_by LimitZero s before = before
-left_by ExpiryOutOfRange s before = before
+abbrev pub left_by : Result Unit StoreSettingsError → Settings → List ℕ → List ℕ
+left_by (Ok u) s before = record_of s ++ drop record_length before
+left_by (Err e) s before = before
 
 abbrev pub store_bytes : Settings → List ℕ → List ℕ
 store_bytes s before = left_by (store_answer s (length before)) s before
@@ -117,58 +115,58 @@ abbrev pub marked : List ℕ → Bool
 marked bytes = eqb (get_or bytes 0 0) 0x53 && eqb (get_or bytes 1 0) 0x54
 
 -- on a stop no setting is shown
-abbrev pub shown : Decoded → LoadSettingsAnswer
-shown (values vs) = Loaded (settings_from vs)
-shown short = NoSettingsRecord
-shown out_of_range = UnreadableSettingsRecord
+abbrev pub shown : Decoded → Result Settings LoadSettingsError
+shown (values vs) = Ok (settings_from vs)
+shown short = Err NoSettingsRecord
+shown out_of_range = Err UnreadableSettingsRecord
 
--- "Bytes after the last field are not read": what decoding reads is `decode-reads`
-abbrev pub of_layout : Option (List Field) → List ℕ → LoadSettingsAnswer
-of_layout none rest = UnreadableSettingsRecord
-of_layout (some fs) rest = cond (ltb (length rest) (size fs)) NoSettingsRecord (shown (decode fs rest))
+-- "Bytes after the last field are not read": what decoding reads is `decode_reads`
+abbrev pub of_layout : Option (List Field) → List ℕ → Result Settings LoadSettingsError
+of_layout none rest = Err UnreadableSettingsRecord
+of_layout (some fs) rest = cond (ltb (length rest) (size fs)) (Err NoSettingsRecord) (shown (decode fs rest))
 
 -- "The three bytes, mark, layout, remaining length and fields are tested in that order."
-abbrev pub loaded : Layouts → List ℕ → LoadSettingsAnswer
+abbrev pub loaded : Layouts → List ℕ → Result Settings LoadSettingsError
 loaded layouts bytes =
-    cond (ltb (length bytes) 3) NoSettingsRecord
-    (cond (not (marked bytes)) NoSettingsRecord
+    cond (ltb (length bytes) 3) (Err NoSettingsRecord)
+    (cond (not (marked bytes)) (Err NoSettingsRecord)
     (of_layout (fields_of layouts (get_or bytes 2 0)) (drop 3 bytes)))
 
 -- ── numbers and values ──
-abbrev pub store_number : StoreSettingsAnswer → ℕ
-store_number Stored = 0
-store_number (TooShort n) = 15
-store_number LimitZero = 14
-store_number ExpiryOutOfRange = 20
+abbrev pub store_number : Result Unit StoreSettingsError → ℕ
+store_number (Ok u) = 0
+store_number (Err (TooShort n)) = 15
+store_number (Err LimitZero) = 14
+store_number (Err ExpiryOutOfRange) = 20
 
-abbrev pub store_values : StoreSettingsAnswer → List Value
-store_values Stored = []
-store_values (TooShort n) = answer.number n ∷ []
-store_values LimitZero = []
-store_values ExpiryOutOfRange = []
+abbrev pub store_values : Result Unit StoreSettingsError → List Value
+store_values (Ok u) = []
+store_values (Err (TooShort n)) = answer.number n ∷ []
+store_values (Err LimitZero) = []
+store_values (Err ExpiryOutOfRange) = []
 
 -- "22 for under three bytes, a wrong mark, or fewer bytes than a known layout needs; 23 for an unknown layout or a field out of range"
-abbrev pub load_number : LoadSettingsAnswer → ℕ
-load_number (Loaded s) = 0
-load_number NoSettingsRecord = 22
-load_number UnreadableSettingsRecord = 23
+abbrev pub load_number : Result Settings LoadSettingsError → ℕ
+load_number (Ok s) = 0
+load_number (Err NoSettingsRecord) = 22
+load_number (Err UnreadableSettingsRecord) = 23
 
-abbrev pub load_values : LoadSettingsAnswer → List Value
-load_values (Loaded s) = []
-load_values NoSettingsRecord = []
-load_values UnreadableSettingsRecord = []
+abbrev pub load_values : Result Settings LoadSettingsError → List Value
+load_values (Ok s) = []
+load_values (Err NoSettingsRecord) = []
+load_values (Err UnreadableSettingsRecord) = []
 
 -- ── what the calls promise ──
 -- "Whatever settings were stored come out again alike, and a layout 1 reader given layout 2 stops by number and shows no setting.": whatever bytes follow
 pub record Restores (s : Settings) (bytes : List ℕ) : Type 0 where
-  pub alike : (rest : List ℕ) → loaded Both (take record_length bytes ++ rest) ≡ Loaded s
-  pub refused : (rest : List ℕ) → loaded First (take record_length bytes ++ rest) ≡ UnreadableSettingsRecord
+  pub alike : (rest : List ℕ) → loaded Both (take record_length bytes ++ rest) ≡ Ok s
+  pub refused : (rest : List ℕ) → loaded First (take record_length bytes ++ rest) ≡ Err UnreadableSettingsRecord
 
 -- the writer: answer, bytes, and what either reader then makes of them
-pub record Stores (s : Settings) (before : List ℕ) (r : StoreSettingsAnswer) (after : List ℕ) : Type 0 where
+pub record Stores (s : Settings) (before : List ℕ) (r : Result Unit StoreSettingsError) (after : List ℕ) : Type 0 where
   pub answer_is : r ≡ store_answer s (length before)
   pub bytes_are : after ≡ store_bytes s before
-  pub restores : r ≡ Stored → Restores s after
+  pub restores : r ≡ Ok tt → Restores s after
 
 -- the bytes of the fields as layout 2 has them: of layout 1 with 20,000 behind them
 abbrev pub as_layout_2 : ℕ → List ℕ → List ℕ
@@ -176,11 +174,11 @@ as_layout_2 layout rest = cond (eqb layout 1) (take (size layout_1) rest ++ enco
 
 -- settings that were read, written again: the writer does not stop, and the record is the same up to the layout and the bytes behind it
 pub record Rewrites (bytes : List ℕ) (s : Settings) : Type 0 where
-  pub stored : (n : ℕ) → record_length ≤ n → store_answer s n ≡ Stored
+  pub stored : (n : ℕ) → record_length ≤ n → store_answer s n ≡ Ok tt
   pub same : record_of s ≡ 0x53 ∷ 0x54 ∷ 2 ∷ as_layout_2 (get_or bytes 2 0) (drop 3 bytes)
 
 -- the reader: its answer, and of settings that were read that they are such as the setters leave, and what they are written as
-pub record Loads (layouts : Layouts) (bytes : List ℕ) (r : LoadSettingsAnswer) : Type 0 where
+pub record Loads (layouts : Layouts) (bytes : List ℕ) (r : Result Settings LoadSettingsError) : Type 0 where
   pub answer_is : r ≡ loaded layouts bytes
-  pub proper : (s : Settings) → r ≡ Loaded s → Proper s
-  pub again : (s : Settings) → r ≡ Loaded s → Rewrites bytes s
+  pub proper : (s : Settings) → r ≡ Ok s → Proper s
+  pub again : (s : Settings) → r ≡ Ok s → Rewrites bytes s

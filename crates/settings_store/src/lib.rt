@@ -2,8 +2,6 @@
 
 #![tactic(auto)]
 
-use settings::Settings;
-
 // The bytes of a record of layout 2, the only one that is written.
 pub const RECORD_LENGTH: usize = 14;
 
@@ -14,10 +12,9 @@ pub enum Layouts {
     Both,
 }
 
-// What the writer answers.
-#[derive(Clone, Copy)]
-pub enum StoreSettingsAnswer {
-    Stored,
+// Why the writer stops. It then writes nothing.
+#[derive(Clone, Copy, PartialEq, Eq)]
+pub enum StoreSettingsError {
     // Number 15: fewer bytes than this are lent.
     TooShort(usize),
     // Number 14: a limit of 0.
@@ -26,10 +23,9 @@ pub enum StoreSettingsAnswer {
     ExpiryOutOfRange,
 }
 
-// What the reader answers. On a stop it shows no setting.
-#[derive(Clone, Copy)]
-pub enum LoadSettingsAnswer {
-    Loaded(Settings),
+// Why the reader stops. It then shows no setting.
+#[derive(Clone, Copy, PartialEq, Eq)]
+pub enum LoadSettingsError {
     // Number 22: under three bytes, a wrong mark, or fewer bytes than the layout needs.
     NoSettingsRecord,
     // Number 23: an unknown layout, or a field out of range.
