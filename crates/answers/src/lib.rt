@@ -21,11 +21,9 @@ pub fn stored_answer(a: StoreCall) -> StepAnswer
     ensures told { Tells result (store_number_of a) (store_values_of a) }
 {
     match a {
-        StoreCall::Taken(s) => match s {
-            StoreAnswer::Stored => StepAnswer::Nothing,
-            StoreAnswer::MergeRefused => StepAnswer::DmxMergeError,
-            StoreAnswer::WaitingFull => StepAnswer::WaitingFull,
-        },
+        StoreCall::Taken(StoreAnswer::Stored) => StepAnswer::Nothing,
+        StoreCall::Taken(StoreAnswer::MergeRefused) => StepAnswer::DmxMergeError,
+        StoreCall::Taken(StoreAnswer::WaitingFull) => StepAnswer::WaitingFull,
         StoreCall::TooLong(n) => StepAnswer::TooLong(n),
     }
 }
@@ -51,12 +49,8 @@ pub fn release_answer(a: ReleaseAnswer) -> StepAnswer
     ensures told { step_number result ≡ release_number_of a }
 {
     match a {
-        ReleaseAnswer::Released(records, bytes) => {
-            if records == 0 {
-                return StepAnswer::Nothing;
-            }
-            StepAnswer::Released(records, bytes)
-        }
+        ReleaseAnswer::Released(0, _) => StepAnswer::Nothing,
+        ReleaseAnswer::Released(records, bytes) => StepAnswer::Released(records, bytes),
         ReleaseAnswer::OutputShort(n) => StepAnswer::TooShort(n),
     }
 }
@@ -67,12 +61,8 @@ pub fn listed_answer(a: PageAnswer, settings: Settings) -> StepAnswer
 {
     match a {
         PageAnswer::Taken => StepAnswer::Nothing,
-        PageAnswer::Listed => {
-            if settings.announce_source_discovery {
-                return StepAnswer::SourceDiscovered;
-            }
-            StepAnswer::Nothing
-        }
+        PageAnswer::Listed if settings.announce_source_discovery => StepAnswer::SourceDiscovered,
+        PageAnswer::Listed => StepAnswer::Nothing,
         PageAnswer::PagesFull => StepAnswer::PagesFull,
     }
 }

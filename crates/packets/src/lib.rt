@@ -41,12 +41,11 @@ pub struct DiscoveryPacket {
 pub fn dmx_data(packet: DataPacket, reading: u64) -> DmxData
     ensures { result ≡ data_of packet reading }
 {
-    let cid = packet.cid;
     DmxData {
         universe: packet.universe,
         sync_uni: packet.address,
         priority: packet.priority,
-        src_cid: SourceCid::Of(cid),
+        src_cid: SourceCid::Of(packet.cid),
         preview: packet.preview,
         recv_timestamp: reading,
     }
@@ -56,10 +55,7 @@ pub fn dmx_data(packet: DataPacket, reading: u64) -> DmxData
 pub fn is_unwanted(preview: bool, settings: Settings) -> bool
     ensures { result ≡ preview && not settings.process_preview_data }
 {
-    if settings.process_preview_data {
-        return false;
-    }
-    preview
+    preview && !settings.process_preview_data
 }
 
 // What is done with a data packet that is wanted.
@@ -74,11 +70,9 @@ pub enum Course {
 pub fn course_of(terminated: bool, listening: bool) -> Course
     ensures { result ≡ course_of terminated listening }
 {
-    if terminated {
-        return Course::End;
+    match (terminated, listening) {
+        (true, _) => Course::End,
+        (false, true) => Course::Arrive,
+        (false, false) => Course::Pass,
     }
-    if listening {
-        return Course::Arrive;
-    }
-    Course::Pass
 }
