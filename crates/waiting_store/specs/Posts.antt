@@ -1,17 +1,15 @@
 -- What the functions over rows and blocks show, in named parts.
 -- Assumes nothing.
-use Rattle.std.specs.Prelude.{◌≡◌, Bool, not, List, [], ◌⊎◌, ◌≢◌, ℕ, ◌+◌, ◌*◌, ◌≤◌, ◌<◌, ltb, eqb, length, take, drop, get_or, set}
-use Rattle.std.proofs.Common.{inl, inr, arith, ltb-true}
-use Rattle.laws.specs.Order.{ℕOrder, tri}
+use Rattle.std.specs.Prelude.{◌≡◌, Bool, not, List, [], ◌≢◌, ℕ, ◌+◌, ◌-◌, ◌*◌, ◌≤◌, ◌<◌, ltb, eqb, length, take, drop, get_or, set, Result, Ok, Err}
+use Rattle.std.proofs.Common.{◌∙◌, arith, length-drop}
+use Rattle.std.specs.List.{copy_within}
 use Rattle.laws.specs.Place.{prefix}
-use Rattle.laws.specs.Parts.{pasted}
+use Rattle.laws.specs.Parts.{pasted, paste_part}
 use Rattle.rules.specs.Age.{expired}
 use Rattle.merge.specs.declared.DmxData.{DmxData}
 use Rattle.merge.specs.Merge.{Dmx, most_values}
 use Rattle.merge.specs.Views.{dmx}
 use Rattle.waiting.specs.Waiting.{capacity}
-use Rattle.waiting_store.specs.declared.Found.{Found}
-use Rattle.waiting_store.specs.declared.Found.TheVariants.{At, Before}
 use Rattle.waiting_store.specs.declared.Retain.{Retain}
 use Rattle.waiting_store.specs.declared.Retain.TheVariants.{Fresh, OtherThan}
 use Rattle.waiting_store.specs.Entries.{head_of, count_of, entries, nothing, Room, Lent, lent_put, put_entry, moved_entry, length_block}
@@ -41,13 +39,9 @@ abbrev pub below : ℕ → DmxData → Bool
 below u d = ltb d.universe u
 
 -- where a universe was found, or where it belongs
-abbrev pub Sought : ℕ → ℕ → List (List ℕ) → Found → Type 0
-Sought u n rows (At i) = (i ≡ prefix (λ row. below u (head_of row)) (take n rows)) × (i < n) × ((head_of (get_or rows i [])).universe ≡ u)
-Sought u n rows (Before i) = (i ≡ prefix (λ row. below u (head_of row)) (take n rows)) × (i < n → (head_of (get_or rows i [])).universe ≢ u)
-
--- two blocks that do not overlap
-abbrev pub Apart : ℕ → ℕ → Type 0
-Apart a b = (a + most_values ≤ b) ⊎ (b + most_values ≤ a)
+abbrev pub Sought : ℕ → ℕ → List (List ℕ) → Result ℕ ℕ → Type 0
+Sought u n rows (Ok i) = (i ≡ prefix (λ row. below u (head_of row)) (take n rows)) × (i < n) × ((head_of (get_or rows i [])).universe ≡ u)
+Sought u n rows (Err i) = (i ≡ prefix (λ row. below u (head_of row)) (take n rows)) × (i < n → (head_of (get_or rows i [])).universe ≢ u)
 
 -- ── laws: one for each way that an entry is put ──
 pub changed_put : (rows : List (List ℕ)) (store store' : List ℕ) (i : ℕ) (row vs : List ℕ) (d : DmxData) → Room rows store → i < capacity → length vs ≤ most_values
@@ -58,19 +52,17 @@ changed_put rows store store' i row vs d r h f w e = record {
 }
 
 pub changed_move : (rows : List (List ℕ)) (store store' : List ℕ) (from to n : ℕ) → Room rows store → from < capacity → to < capacity
-    → n ≡ count_of (get_or rows from []) → store' ≡ pasted store (to * most_values) (take n (drop (from * most_values) store))
+    → n ≡ count_of (get_or rows from []) → store' ≡ copy_within store (from * most_values) (from * most_values + n) (to * most_values)
     → Changed rows store (set rows to (get_or rows from [])) store' (set (entries rows store) to (get_or (entries rows store) from nothing))
 changed_move rows store store' from to n r h g k e =
     let row = get_or rows from [] in
     let vs = take (count_of row) (drop (from * most_values) store) in
-    let f : store' ≡ pasted store (to * most_values) vs = rw k at e in
-    let l = length_block rows store row from r h in
     let m : count_of row ≤ most_values = omega arith in
+    let q : from * most_values + n - from * most_values ≡ count_of row = omega arith in
+    let s = r.store_room in
+    let f : store' ≡ pasted store (to * most_values) vs =
+    e ∙ rw q (paste_part store (to * most_values) (drop (from * most_values) store) (count_of row) (omega arith) (omega (arith, length-drop (from * most_values) store))) in
     record {
-      lent = rw f (lent_put rows store to row vs r g (omega arith));
+      lent = rw f (lent_put rows store to row vs r g (omega (arith, length_block rows store row from r h)));
       becomes = rw f (moved_entry rows store from to r h g);
     }
-
--- places that differ have blocks apart
-pub blocks_apart : (a b : ℕ) → a ≢ b → Apart (a * most_values) (b * most_values)
-blocks_apart a b n = tri ltb ℕOrder a b (λ p q. inl (omega (arith, ltb-true a b p))) (λ e. absurd (n e)) (λ p q. inr (omega (arith, ltb-true b a q)))

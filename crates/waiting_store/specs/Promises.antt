@@ -1,15 +1,10 @@
 -- Lent rows and a lent store in a contract: the entries in them, and what a call makes of them.
 -- Assumes nothing.
 use Rattle.std.specs.Prelude.{List, ℕ}
-use Rattle.std.specs.Borrow.{MutBor}
-use denote.Triple.Both.{Both}
+use Rattle.laws.specs.Lent.{Part}
 use Rattle.merge.specs.Merge.{Dmx}
 use Rattle.waiting_store.specs.Entries.{entries, waiting_of}
 use Rattle.waiting_store.specs.Posts.{Changed, Held}
-
--- a part lent to be changed, in an `ensures`: the reference as the call finds it and as the call leaves it
-abbrev pub Part : Type 0 → Type 0
-Part X = Both (MutBor X) (MutBor X)
 
 -- all entries as the call finds them
 abbrev pub entries_before : Part (List (List ℕ)) → Part (List ℕ) → List Dmx

@@ -2,9 +2,9 @@
 -- Assumes nothing.
 use Rattle.std.specs.Prelude.{◌≡◌, Bool, true, false, not, cond, eqb, take, drop, get_or}
 use Rattle.std.proofs.Math.Path.{refl, sym, ap}
-use Rattle.std.proofs.Common.{◌∙◌, subst, arith, div-one, mod-eq_of_lt, length-take, length-append}
-use mathlib.Core.List.{List, [], ◌∷◌, ◌++◌, append_assoc}
-use Prim.Native.Nat.{ℕ, suc, ◌+◌, ◌/◌, ◌%◌, ◌≤◌, ◌<◌}
+use Rattle.std.proofs.Common.{◌∙◌, arith, div-one, mod-eq_of_lt, length-take, length-append}
+use mathlib.Core.List.{List, [], ◌∷◌, ◌++◌}
+use Prim.Native.Nat.{ℕ, zero, suc, ◌+◌, ◌/◌, ◌%◌, ◌^◌, ◌≤◌, ◌<◌}
 use Rattle.std.proofs.Math.ListN.{length}
 use Rattle.laws.specs.Cases.{split}
 use Rattle.laws.specs.Table.{keep, length_keep}
@@ -12,6 +12,8 @@ use Rattle.laws.specs.Arrays.{next, spent}
 use Rattle.laws.specs.Parts.{pasted, pasted_none, pasted_append, pasted_front, length_pasted}
 use Rattle.rules.specs.Age.{expired}
 use Rattle.rules.specs.Bytes.{big_endian, bit}
+use Rattle.rules.proofs.BytesLaws.{length_big_endian}
+use Rattle.std.specs.Int.{bytes_high_first}
 use Rattle.merge.specs.declared.DmxData.{DmxData}
 use Rattle.merge.specs.Merge.{Dmx}
 use Rattle.merge.specs.Views.{dmx}
@@ -19,14 +21,6 @@ use Rattle.waiting.specs.Waiting.{fresh, of_address, released, capacity}
 use Rattle.waiting.specs.Records.{owner, encode, records, over, most_bytes}
 use Rattle.waiting.proofs.Laws.{length_encode, records_within, within_keep}
 use Rattle.waiting_store.specs.Entries.{entries, Room, within_entries}
-
--- ── the parts of a record ──
-abbrev pub front_bytes : DmxData → ℕ → List ℕ
-front_bytes d present =
-    0x55 ∷ 0x44 ∷ d.universe / 256 % 256 ∷ d.universe % 256 ∷ d.sync_uni / 256 % 256 ∷ d.sync_uni % 256 ∷ d.priority ∷ bit d.preview ∷ present ∷ []
-
-abbrev pub back_bytes : ℕ → ℕ → List ℕ
-back_bytes reading count = big_endian 8 reading ++ big_endian 2 count
 
 -- whether a release writes it
 abbrev pub due : ℕ → ℕ → DmxData → Bool
@@ -39,22 +33,18 @@ pub record Writing (ds : List Dmx) (out out' : List ℕ) (count bytes : ℕ) : T
   pub byte_count : bytes ≡ length (records ds)
 
 -- ── laws ──
--- the parts laid one after the other
-pub laid_parts : (out o₁ o₂ o₃ o₄ : List ℕ) (at : ℕ) (front cid back values : List ℕ) → length front ≡ 9 → length cid ≡ 16 → length back ≡ 10 → at + 35 ≤ length out
-    → o₁ ≡ pasted out at front → o₂ ≡ pasted o₁ (at + 9) cid → o₃ ≡ pasted o₂ (at + 25) back → o₄ ≡ pasted o₃ (at + 35) values
-    → o₄ ≡ pasted out at (front ++ (cid ++ (back ++ values)))
-laid_parts out o₁ o₂ o₃ o₄ at front cid back values f c b room e₁ e₂ e₃ e₄ =
-    let h : at ≤ length out = omega arith in
-    let n₂ : length (front ++ cid) ≡ 25 = omega (arith, length-append front cid) in
-    let n₃ : length ((front ++ cid) ++ back) ≡ 35 = omega (arith, length-append (front ++ cid) back) in
-    let p₂ : o₂ ≡ pasted out at (front ++ cid) = rw (e₂, e₁) (subst (λ (k : ℕ). pasted (pasted out at front) (at + k) cid ≡ pasted out at (front ++ cid)) f (pasted_append out at front h cid)) in
-    let p₃ : o₃ ≡ pasted out at ((front ++ cid) ++ back) =
-    rw (e₃, p₂) (subst (λ (k : ℕ). pasted (pasted out at (front ++ cid)) (at + k) back ≡ pasted out at ((front ++ cid) ++ back)) n₂ (pasted_append out at (front ++ cid) h back)) in
-    let p₄ : o₄ ≡ pasted out at (((front ++ cid) ++ back) ++ values) =
-    rw (e₄, p₃) (subst (λ (k : ℕ). pasted (pasted out at ((front ++ cid) ++ back)) (at + k) values ≡ pasted out at (((front ++ cid) ++ back) ++ values)) n₃ (pasted_append out at ((front ++ cid) ++ back) h values)) in
-    p₄ ∙ ap (pasted out at) (append_assoc (front ++ cid) back values ∙ append_assoc front cid (back ++ values))
+-- a part laid where the ones before it end
+then_laid : (out o o' : List ℕ) (at k : ℕ) (xs ys : List ℕ) → at ≤ length out → k ≡ at + length xs → o ≡ pasted out at xs → o' ≡ pasted o k ys → o' ≡ pasted out at (xs ++ ys)
+then_laid out o o' at k xs ys h e a b = rw (b, e, a) (pasted_append out at xs h ys)
 
-two : (w : ℕ) → big_endian 2 w ≡ w / 256 % 256 ∷ w % 256 ∷ []
+-- the library's bytes of a number
+pub spelled : (n w : ℕ) → bytes_high_first n w ≡ big_endian n w
+unfolding big_endian
+spelled zero w = refl
+spelled (suc zero) w = simp div-one
+spelled (suc (suc n)) w = ap (λ (x : List ℕ). w / 256 ^ suc n % 256 ∷ x) (spelled (suc n) w)
+
+pub two : (w : ℕ) → big_endian 2 w ≡ w / 256 % 256 ∷ w % 256 ∷ []
 unfolding big_endian
 two w = simp div-one
 
@@ -62,30 +52,45 @@ one : (w : ℕ) → big_endian 1 w ≡ w % 256 ∷ []
 unfolding big_endian
 one w = simp div-one
 
--- are the record
-pub encode_parts : (d : DmxData) (present : ℕ) (cid values : List ℕ) → d.priority < 256 → owner d.src_cid ≡ present ∷ cid
-    → encode (dmx d values) ≡ front_bytes d present ++ (cid ++ (back_bytes d.recv_timestamp (length values) ++ values))
-unfolding encode
-encode_parts d present cid values p e =
-    let u = two d.universe in
-    let a = two d.sync_uni in
-    let o : big_endian 1 d.priority ≡ d.priority ∷ [] = one d.priority ∙ ap (λ (x : ℕ). x ∷ []) (mod-eq_of_lt p) in
-    rw (e, u, a, o)
-    (ap (λ (x : List ℕ). front_bytes d present ++ x) (append_assoc (cid ++ big_endian 8 d.recv_timestamp) (big_endian 2 (length values)) values
-    ∙ append_assoc cid (big_endian 8 d.recv_timestamp) (big_endian 2 (length values) ++ values)
-    ∙ ap (λ (x : List ℕ). cid ++ x) (sym (append_assoc (big_endian 8 d.recv_timestamp) (big_endian 2 (length values)) values))))
-
 -- a record laid by its parts
 pub record Laid (d : DmxData) (values out out' : List ℕ) (at r : ℕ) : Type 0 where
   pub after : r ≡ at + length (encode (dmx d values))
   pub laid : out' ≡ pasted out at (encode (dmx d values))
 
-pub record_laid : (d : DmxData) (present : ℕ) (front cid back values out out' : List ℕ) (at r : ℕ) → d.priority < 256 → owner d.src_cid ≡ present ∷ cid
-    → front ≡ front_bytes d present → back ≡ back_bytes d.recv_timestamp (length values)
-    → r ≡ at + 35 + length values → out' ≡ pasted out at (front ++ (cid ++ (back ++ values))) → Laid d values out out' at r
-record_laid d present front cid back values out out' at r p o f b k e =
-    let q : front ++ (cid ++ (back ++ values)) ≡ encode (dmx d values) = rw (f, b) (sym (encode_parts d present cid values p o)) in
-    record { after = omega (arith, length_encode (dmx d values)); laid = e ∙ ap (pasted out at) q }
+pub record_laid : (d : DmxData) (present : ℕ) (cid values out o₁ o₂ o₃ o₄ o₅ o₆ o₇ o₈ : List ℕ) (at : ℕ) → at + 35 ≤ length out → length cid ≡ 16 → d.priority < 256
+    → owner d.src_cid ≡ present ∷ cid
+    → o₁ ≡ pasted out at (0x55 ∷ 0x44 ∷ []) → o₂ ≡ pasted o₁ (at + 2) (big_endian 2 d.universe) → o₃ ≡ pasted o₂ (at + 4) (big_endian 2 d.sync_uni)
+    → o₄ ≡ pasted o₃ (at + 6) (d.priority ∷ bit d.preview ∷ present ∷ []) → o₅ ≡ pasted o₄ (at + 9) cid → o₆ ≡ pasted o₅ (at + 25) (big_endian 8 d.recv_timestamp)
+    → o₇ ≡ pasted o₆ (at + 33) (big_endian 2 (length values)) → o₈ ≡ pasted o₇ (at + 35) values → Laid d values out o₈ at (at + 35 + length values)
+unfolding encode
+record_laid d present cid values out o₁ o₂ o₃ o₄ o₅ o₆ o₇ o₈ at room c p e e₁ e₂ e₃ e₄ e₅ e₆ e₇ e₈ =
+    let h : at ≤ length out = omega arith in
+    let x₁ : List ℕ = 0x55 ∷ 0x44 ∷ [] in
+    let u = big_endian 2 d.universe in
+    let a = big_endian 2 d.sync_uni in
+    let y : List ℕ = d.priority ∷ bit d.preview ∷ present ∷ [] in
+    let t = big_endian 8 d.recv_timestamp in
+    let n = big_endian 2 (length values) in
+    let lu = length_big_endian 2 d.universe in
+    let la = length_big_endian 2 d.sync_uni in
+    let lt = length_big_endian 8 d.recv_timestamp in
+    let ln = length_big_endian 2 (length values) in
+    let n₂ : length (x₁ ++ u) ≡ 4 = omega arith in
+    let n₃ : length ((x₁ ++ u) ++ a) ≡ 6 = omega (arith, length-append (x₁ ++ u) a) in
+    let n₄ : length (((x₁ ++ u) ++ a) ++ y) ≡ 9 = omega (arith, length-append ((x₁ ++ u) ++ a) y) in
+    let n₅ : length ((((x₁ ++ u) ++ a) ++ y) ++ cid) ≡ 25 = omega (arith, length-append (((x₁ ++ u) ++ a) ++ y) cid) in
+    let n₆ : length (((((x₁ ++ u) ++ a) ++ y) ++ cid) ++ t) ≡ 33 = omega (arith, length-append ((((x₁ ++ u) ++ a) ++ y) ++ cid) t) in
+    let n₇ : length ((((((x₁ ++ u) ++ a) ++ y) ++ cid) ++ t) ++ n) ≡ 35 = omega (arith, length-append (((((x₁ ++ u) ++ a) ++ y) ++ cid) ++ t) n) in
+    let p₂ = then_laid out o₁ o₂ at (at + 2) x₁ u h (omega arith) e₁ e₂ in
+    let p₃ = then_laid out o₂ o₃ at (at + 4) (x₁ ++ u) a h (omega arith) p₂ e₃ in
+    let p₄ = then_laid out o₃ o₄ at (at + 6) ((x₁ ++ u) ++ a) y h (omega arith) p₃ e₄ in
+    let p₅ = then_laid out o₄ o₅ at (at + 9) (((x₁ ++ u) ++ a) ++ y) cid h (omega arith) p₄ e₅ in
+    let p₆ = then_laid out o₅ o₆ at (at + 25) ((((x₁ ++ u) ++ a) ++ y) ++ cid) t h (omega arith) p₅ e₆ in
+    let p₇ = then_laid out o₆ o₇ at (at + 33) (((((x₁ ++ u) ++ a) ++ y) ++ cid) ++ t) n h (omega arith) p₆ e₇ in
+    let p₈ = then_laid out o₇ o₈ at (at + 35) ((((((x₁ ++ u) ++ a) ++ y) ++ cid) ++ t) ++ n) values h (omega arith) p₇ e₈ in
+    let o : big_endian 1 d.priority ≡ d.priority ∷ [] = one d.priority ∙ ap (λ (x : ℕ). x ∷ []) (mod-eq_of_lt p) in
+    let q : ((((((x₁ ++ u) ++ a) ++ y) ++ cid) ++ t) ++ n) ++ values ≡ encode (dmx d values) = rw (e, o, two d.universe, two d.sync_uni) refl in
+    record { after = omega (arith, length_encode (dmx d values)); laid = p₈ ∙ ap (pasted out at) q }
 
 -- ── the loop over the entries ──
 module _ (now a : ℕ) where

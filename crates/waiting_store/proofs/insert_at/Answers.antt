@@ -2,6 +2,7 @@
 -- Assumes nothing.
 use mathlib.Core.Path.{◌≡◌, ◌∙◌}
 use native.Mathlib.Omega.{arith}
+use Prim.Native.Nat.{◌+◌, ◌-◌, ◌<◌}
 use Rattle.merge.specs.Views.{dmx}
 use Rattle.waiting_store.specs.Entries.{lent_room}
 use Rattle.waiting_store.specs.Passes.{inserting_start, inserting_turn, inserting_end}
@@ -16,7 +17,7 @@ move_entry-requires c =
     let s = c in
     let h = c.loop-j-test.true in
     let g = l.invariant.high in
-    (lent_room s.requires.0 l.invariant.lent, omega arith, omega arith, λ e. omega arith)
+    (lent_room s.requires.0 l.invariant.lent, omega arith, omega arith)
 
 pub loop-j-preserved : goal.loop-j-preserved
 loop-j-preserved c =
@@ -24,8 +25,10 @@ loop-j-preserved c =
     let l = m.loop-j in
     let s = m in
     let v = s.args in
+    let h : v.i < l.j = m.loop-j-test.true in
+    let e : l.j - 1 + 1 ≡ l.j = omega arith in
     inserting_turn v.rows.now v.store.now v.n v.i l.rows m.move_entry.new.rows l.store m.move_entry.new.store l.j s.requires.0 s.requires.2 l.invariant
-    m.loop-j-test.true m.move_entry.ensures
+    h (rw e at m.move_entry.ensures)
 
 pub write_entry-requires : goal.write_entry-requires
 write_entry-requires c =

@@ -5,6 +5,3 @@ use Rattle.waiting_store.proofs.insert_at.Given as goal
 
 abbrev pub invariant-loop-j : goal.invariant-loop-j
 invariant-loop-j l = Inserting l.initial.rows l.initial.store l.n l.i l.rows l.store l.j
-
-abbrev pub decreases-loop-j : goal.decreases-loop-j
-decreases-loop-j l = l.j

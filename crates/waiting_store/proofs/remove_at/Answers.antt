@@ -13,7 +13,7 @@ move_entry-requires c =
     let l = c.loop-w in
     let s = c in
     let h = c.loop-w-test.true in
-    (lent_room s.requires.0 l.invariant.lent, omega arith, omega arith, λ e. omega arith)
+    (lent_room s.requires.0 l.invariant.lent, omega arith, omega arith)
 
 pub loop-w-preserved : goal.loop-w-preserved
 loop-w-preserved c =
@@ -22,7 +22,7 @@ loop-w-preserved c =
     let s = m in
     let v = s.args in
     removing_turn v.rows.now v.store.now v.n v.i l.rows m.move_entry.new.rows l.store m.move_entry.new.store l.w s.requires.0 s.requires.2 l.invariant
-    m.loop-w-test.true m.move_entry.ensures
+    (omega (arith, m.loop-w-test.true)) m.move_entry.ensures
 
 pub shape_of-store : goal.shape_of-store
 shape_of-store c = c.loop-w.invariant.lent.store_same
@@ -32,4 +32,4 @@ returns c =
     let l = c.loop-w in
     let s = c in
     let v = s.args in
-    removing_end v.rows.now v.store.now v.n v.i l.rows l.store l.w s.requires.0 s.requires.2 l.invariant c.loop-w-test.false
+    removing_end v.rows.now v.store.now v.n v.i l.rows l.store l.w s.requires.0 s.requires.2 l.invariant (omega (arith, c.loop-w-test.false))

@@ -5,7 +5,6 @@ use Rattle.waiting_store.proofs.write_entry.Goals as goal
 
 pub returns : goal.returns
 returns c =
-    let s = c in
-    let v = s.args in
-    changed_put v.rows.now v.store.now c.copy_values.new.out v.i c.row_of-row.result v.values.now v.d s.requires.0 s.requires.1 s.requires.2
-    c.row_of-row.ensures c.copy_values.ensures
+    let v = c.args in
+    changed_put v.rows.now v.store.now c.paste.new.elements v.i c.row_of.result v.values.now v.d c.requires.0 c.requires.1 c.requires.2
+    c.row_of.ensures c.paste.ensures

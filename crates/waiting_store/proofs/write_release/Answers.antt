@@ -11,6 +11,7 @@ use Rattle.waiting.specs.Records.{encode, records}
 use Rattle.waiting_store.specs.Passes.{head_at}
 use Rattle.laws.specs.Table.{keep, length_keep}
 use Rattle.waiting_store.specs.Written.{due, due_of, releasing_start, releasing_skip, releasing_room, releasing_write, releasing_end, release_room}
+use Rattle.waiting_store.proofs.write_release.Goals.{then-is_due, else-is_due}
 use Rattle.waiting_store.proofs.write_release.Goals as goal
 
 pub loop-i-init : goal.loop-i-init
@@ -39,25 +40,6 @@ overflow_add-records c =
     let ds = entries v.rows.now v.store.now in
     omega (arith, c.loop-i.invariant.records_left, length_keep (due_of v.reading v.address) (take v.n ds), length-take v.n ds, c.requires.1)
 
-pub loop-i-preserved-then-is_due : goal.loop-i-preserved-then-is_due
-loop-i-preserved-then-is_due c =
-    let v = c.args in
-    let l = c.loop-i in
-    let ds = entries v.rows.now v.store.now in
-    let h : l.i < v.n = c.loop-i-test.true in
-    let rs = c.requires.0.rows_length in
-    let placed : l.i < length ds = omega (arith, length_entries v.rows.now v.store.now) in
-    let looks : Dmx = get_or ds l.i nothing in
-    let asked : due_of v.reading v.address looks ≡ c.is_due.result =
-    ap (due v.reading v.address) (head_at v.rows.now v.store.now l.i (omega (arith, length_entries v.rows.now v.store.now)) ∙ sym c.head_of-d.ensures) ∙ sym c.is_due.ensures in
-    let room : length (records (keep (due_of v.reading v.address) (take v.n ds))) ≤ length v.out.now =
-    release_room v.reading v.address v.n v.rows.now v.store.now v.out.now c.requires.0 c.requires.1 c.requires.2 in
-    let e = read_entry v.rows.now v.store.now l.i c.requires.0 (omega arith) c.head_of-d.result c.count_of.result c.head_of-d.ensures c.count_of.ensures in
-    releasing_write v.reading v.address ds v.n v.out.now l.out l.i l.at l.records l.invariant nothing h placed
-    (asked ∙ c.if-is_due.true) c.write_record-at.new.out c.write_record-at.result room
-    (c.write_record-at.ensures.laid ∙ ap (λ (x : Dmx). pasted l.out l.at (encode x)) e)
-    (c.write_record-at.ensures.after ∙ ap (λ (x : Dmx). l.at + length (encode x)) e)
-
 pub loop-i-preserved : goal.loop-i-preserved
 loop-i-preserved c =
     let v = c.args in
@@ -69,7 +51,19 @@ loop-i-preserved c =
     let looks : Dmx = get_or ds l.i nothing in
     let asked : due_of v.reading v.address looks ≡ c.is_due.result =
     ap (due v.reading v.address) (head_at v.rows.now v.store.now l.i (omega (arith, length_entries v.rows.now v.store.now)) ∙ sym c.head_of-d.ensures) ∙ sym c.is_due.ensures in
-    releasing_skip v.reading v.address ds v.n v.out.now l.out l.i l.at l.records l.invariant nothing h placed (asked ∙ c.if-is_due.false)
+    let room : length (records (keep (due_of v.reading v.address) (take v.n ds))) ≤ length v.out.now =
+    release_room v.reading v.address v.n v.rows.now v.store.now v.out.now c.requires.0 c.requires.1 c.requires.2 in
+    elim c.if-is_due.branch [
+      | then-is_due w ↦
+          let e = read_entry v.rows.now v.store.now l.i c.requires.0 (omega arith) c.head_of-d.result w.count_of.result c.head_of-d.ensures w.count_of.ensures in
+          rw (w.out-is, w.at-is, w.records-is)
+          (releasing_write v.reading v.address ds v.n v.out.now l.out l.i l.at l.records l.invariant nothing h placed
+          (asked ∙ w.if-is_due.true) w.write_record-at.new.out w.write_record-at.result room
+          (w.write_record-at.ensures.laid ∙ ap (λ (x : Dmx). pasted l.out l.at (encode x)) e)
+          (w.write_record-at.ensures.after ∙ ap (λ (x : Dmx). l.at + length (encode x)) e))
+      | else-is_due w ↦ rw (w.out-is, w.at-is, w.records-is)
+          (releasing_skip v.reading v.address ds v.n v.out.now l.out l.i l.at l.records l.invariant nothing h placed (asked ∙ w.if-is_due.false))
+    ]
 
 pub returns : goal.returns
 returns c =
