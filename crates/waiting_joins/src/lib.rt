@@ -20,17 +20,15 @@ fn choose_entry(rows: &mut EntryRows, store: &mut [u8], i: usize, packet: DmxDat
     ensures { let es = entries_before rows store in
         Become rows store (set es i (preferred (get_or es i nothing) (dmx packet values.now))) }
 {
-    let row = rows[i];
-    let e = head_of(row);
-    let a = i * VALUES;
-    let b = a + count_of(row);
-    let c = merge_calls::discard_lowest_priority_then_previous(e, &store[a..b], packet, values);
+    let e = head_of(rows[i]);
+    let start = i * VALUES;
+    let waits = &store[start..start + count_of(rows[i])];
+    let c = merge_calls::discard_lowest_priority_then_previous(e, waits, packet, values);
     // The winner's values, where they lie: the older's stay there, and only the newer's are written to the store.
-    let n = merge_calls::chosen_values(c, &store[a..b], values).len();
+    let n = merge_calls::chosen_values(c, waits, values).len();
     match c {
-        Choice::Older => {}
         Choice::Newer => write_entry(rows, store, i, packet, &values[..n]),
-        Choice::TooLong(_) => {}
+        Choice::Older | Choice::TooLong(_) => {}
     }
 }
 
@@ -46,19 +44,16 @@ fn blend_entry(
     ensures { let es = entries_before rows store in
         JoinedIn rows store i (htp_merge (get_or es i nothing) (dmx packet values.now)) result }
 {
-    let row = rows[i];
-    let e = head_of(row);
-    let a = i * VALUES;
-    let b = a + count_of(row);
+    let e = head_of(rows[i]);
+    let start = i * VALUES;
+    let waits = &store[start..start + count_of(rows[i])];
     let mut block = [0u8; VALUES];
-    match merge_calls::htp_dmx_merge(e, &store[a..b], packet, values, &mut block) {
+    match merge_calls::htp_dmx_merge(e, waits, packet, values, &mut block) {
         HtpAnswer::Merged(d, m) => {
             write_entry(rows, store, i, d, &block[..m]);
             true
         }
-        HtpAnswer::TooLong(_) => false,
-        HtpAnswer::Refused => false,
-        HtpAnswer::OutputShort(_) => false,
+        HtpAnswer::TooLong(_) | HtpAnswer::Refused | HtpAnswer::OutputShort(_) => false,
     }
 }
 

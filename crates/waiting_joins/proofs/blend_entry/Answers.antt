@@ -2,6 +2,7 @@
 -- Assumes nothing.
 use mathlib.Core.Path.{◌≡◌, sym, ap, ◌∙◌}
 use mathlib.Core.List.{List}
+use mathlib.Core.Logic.{⊎_elim}
 use Prim.Native.Nat.{ℕ, ◌≤◌}
 use native.Mathlib.Omega.{arith}
 use lib.ListN.{length-take, replicate}
@@ -82,28 +83,7 @@ returns-in-TooLong c =
     let d = c.head_of-e in
     let read = read_entry v.rows.now v.store.now v.i c.requires.0 c.requires.1 d.result n.result d.ensures n.ensures in
     let told : k.result ≡ htp_answer most_values w p = k.ensures.answer ∙ ap (λ (x : Dmx). htp_answer most_values x p) read in
-    blend_long v.rows.now v.store.now v.i c.requires.0 c.requires.1 p c.requires.2 most_values (sym told ∙ c.in-TooLong.is)
-
-pub returns-in-Refused : goal.returns-in-Refused
-returns-in-Refused c =
-    let v = c.args in
-    let p = dmx v.packet v.values.now in
-    let w = entry v.rows.now v.store.now v.i c.requires.0 c.requires.1 in
-    let k = c.htp_dmx_merge in
-    let n = c.count_of in
-    let d = c.head_of-e in
-    let read = read_entry v.rows.now v.store.now v.i c.requires.0 c.requires.1 d.result n.result d.ensures n.ensures in
-    let told : k.result ≡ htp_answer most_values w p = k.ensures.answer ∙ ap (λ (x : Dmx). htp_answer most_values x p) read in
-    blend_refused v.rows.now v.store.now v.i c.requires.0 c.requires.1 p c.requires.2 most_values (sym told ∙ c.in-Refused.is)
-
-pub returns-in-OutputShort : goal.returns-in-OutputShort
-returns-in-OutputShort c =
-    let v = c.args in
-    let p = dmx v.packet v.values.now in
-    let w = entry v.rows.now v.store.now v.i c.requires.0 c.requires.1 in
-    let k = c.htp_dmx_merge in
-    let n = c.count_of in
-    let d = c.head_of-e in
-    let read = read_entry v.rows.now v.store.now v.i c.requires.0 c.requires.1 d.result n.result d.ensures n.ensures in
-    let told : k.result ≡ htp_answer most_values w p = k.ensures.answer ∙ ap (λ (x : Dmx). htp_answer most_values x p) read in
-    blend_short v.rows.now v.store.now v.i c.requires.0 c.requires.1 p c.requires.2 most_values (omega arith) (sym told ∙ c.in-OutputShort.is)
+    ⊎_elim (λ x. blend_long v.rows.now v.store.now v.i c.requires.0 c.requires.1 p c.requires.2 most_values (sym told ∙ x.1))
+    (⊎_elim (λ x. blend_refused v.rows.now v.store.now v.i c.requires.0 c.requires.1 p c.requires.2 most_values (sym told ∙ x))
+    (λ x. blend_short v.rows.now v.store.now v.i c.requires.0 c.requires.1 p c.requires.2 most_values (omega arith) (sym told ∙ x.1)))
+    c.in-TooLong.is

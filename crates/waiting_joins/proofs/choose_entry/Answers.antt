@@ -2,6 +2,7 @@
 -- Assumes nothing.
 use mathlib.Core.Path.{◌≡◌, sym, ap, ◌∙◌, subst}
 use mathlib.Core.List.{List}
+use mathlib.Core.Logic.{⊎_elim}
 use Prim.Native.Nat.{ℕ, ◌≤◌}
 use lib.ListN.{length, take, set}
 use lib.Seq.{take-length}
@@ -39,7 +40,8 @@ returns-in-Older c =
     let d = c.head_of-e in
     let told : k.result ≡ choice w p =
     k.ensures.answer ∙ ap (λ (x : Dmx). choice x p) (read_entry v.rows.now v.store.now v.i c.requires.0 c.requires.1 d.result n.result d.ensures n.ensures) in
-    chose_older v.rows.now v.store.now v.i c.requires.0 c.requires.1 p c.requires.2 (sym told ∙ c.in-Older.is)
+    ⊎_elim (λ x. chose_older v.rows.now v.store.now v.i c.requires.0 c.requires.1 p c.requires.2 (sym told ∙ x))
+    (λ x. chose_long v.rows.now v.store.now v.i c.requires.0 c.requires.1 p c.requires.2 (sym told ∙ x.1)) c.in-Older.is
 
 pub returns-in-Newer : goal.returns-in-Newer
 returns-in-Newer c =
@@ -57,15 +59,3 @@ returns-in-Newer c =
     let m = c.write_entry in
     chose_newer v.rows.now v.store.now v.i c.requires.0 c.requires.1 p c.requires.2 m.new.rows m.new.store (sym told ∙ c.in-Newer.is)
     (subst (λ (l : List ℕ). Changed v.rows.now v.store.now m.new.rows m.new.store (set (entries v.rows.now v.store.now) v.i (dmx v.packet l))) whole m.ensures)
-
-pub returns-in-TooLong : goal.returns-in-TooLong
-returns-in-TooLong c =
-    let v = c.args in
-    let p = dmx v.packet v.values.now in
-    let w = entry v.rows.now v.store.now v.i c.requires.0 c.requires.1 in
-    let k = c.discard_lowest_priority_then_previous-c in
-    let n = c.count_of in
-    let d = c.head_of-e in
-    let told : k.result ≡ choice w p =
-    k.ensures.answer ∙ ap (λ (x : Dmx). choice x p) (read_entry v.rows.now v.store.now v.i c.requires.0 c.requires.1 d.result n.result d.ensures n.ensures) in
-    chose_long v.rows.now v.store.now v.i c.requires.0 c.requires.1 p c.requires.2 (sym told ∙ c.in-TooLong.is)
