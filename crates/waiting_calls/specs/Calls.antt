@@ -1,6 +1,6 @@
 -- What each call shows: the waiting data that it makes, in order and within its count, and the memory that it keeps.
 -- Assumes nothing.
-use Rattle.std.specs.Prelude.{◌≡◌, Bool, true, false, ℕ, ◌+◌, ◌-◌, ◌*◌, ◌≤◌, ◌<◌, length, take, drop, get_or, set, replicate}
+use Rattle.std.specs.Prelude.{◌≡◌, Bool, true, false, ℕ, ◌+◌, ◌-◌, ◌*◌, ◌≤◌, ◌<◌, length, take, drop, get_or, set, replicate, Ok, Err}
 use Rattle.std.proofs.Math.Path.{refl, sym, ap}
 use Rattle.std.proofs.Common.{◌∙◌, subst, arith, length-take, get_or-take, le-leb, lt-ltb, le-ltb, ltb-true, ltb-false}
 use Rattle.std.proofs.Math.Bool.{not}
@@ -9,8 +9,10 @@ use mathlib.Core.List.{List, []}
 use Rattle.std.proofs.Math.Dec.{ltb}
 use Rattle.std.proofs.Math.ListN.{get_or-eq_default}
 use Rattle.std.proofs.lemmas.Bool.{lt-leb}
+use Rattle.std.specs.List.{list_any}
 use Rattle.laws.specs.Cases.{split, clash}
-use Rattle.waiting_store.specs.Promises.{Part}
+use Rattle.laws.specs.Library.{any_is}
+use Rattle.laws.specs.Lent.{Part}
 use Rattle.laws.specs.Order.{ℕOrder}
 use Rattle.laws.specs.Table.{keep, any, store as put, remove, Ascending, keep_all, remove_absent}
 use Rattle.laws.specs.Place.{prefix, prefix_le, place, insert_at, remove_at, absent_end, absent, present, store_insert, store_replace, remove_place}
@@ -25,7 +27,6 @@ use Rattle.waiting.specs.declared.StoreCall.{StoreCall}
 use Rattle.waiting.specs.declared.StoreCall.TheVariants.{Taken, TooLong}
 use Rattle.waiting.specs.declared.ReleaseAnswer.{ReleaseAnswer}
 use Rattle.waiting.specs.declared.ReleaseAnswer.TheVariants.{Released, OutputShort}
-use Rattle.waiting_store.specs.declared.Found.TheVariants.{At, Before}
 use Rattle.waiting.specs.Waiting.{universe_of, waiting_for, capacity, merged, stored, released, cleared, held, fresh, swept, left, of_address}
 use Rattle.waiting.specs.Records.{records, most_bytes}
 use Rattle.waiting.specs.Answers.{store_call, store_number_of, store_values_of, store_told, release_call, release_output, release_number_of, release_values_of, release_told}
@@ -126,7 +127,7 @@ module _ (n : ℕ) (rows : List (List ℕ)) (store : List ℕ) (k : Kept n rows 
         let b = k.count_fits in
         ap (λ (d : Dmx). d.head) (get_or-take n (entries rows store) i nothing h) ∙ head_at rows store i (omega arith)
 
-    pub found_at : Sought u n rows (At i) → waiting_for u ds ≡ some (get_or (entries rows store) i nothing)
+    pub found_at : Sought u n rows (Ok i) → waiting_for u ds ≡ some (get_or (entries rows store) i nothing)
     found_at s =
         let p = placed s.0 in
         let h = s.1 in
@@ -134,7 +135,7 @@ module _ (n : ℕ) (rows : List (List ℕ)) (store : List ℕ) (k : Kept n rows 
         let e : universe_of (get_or ds (place ltb universe_of u ds) nothing) ≡ u = rw p (ap (λ (d : DmxData). d.universe) (row_at h) ∙ s.2) in
         present ltb universe_of ℕOrder u ds nothing (omega arith) e ∙ ap some (rw p (get_or-take n (entries rows store) i nothing h))
 
-    pub found_none : Sought u n rows (Before i) → waiting_for u ds ≡ none
+    pub found_none : Sought u n rows (Err i) → waiting_for u ds ≡ none
     found_none s =
         let p = placed s.0 in
         let l = length_waiting k in
@@ -144,18 +145,18 @@ module _ (n : ℕ) (rows : List (List ℕ)) (store : List ℕ) (k : Kept n rows 
         absent ltb universe_of ℕOrder u ds nothing (omega arith) (λ e. s.1 h (sym (ap (λ (d : DmxData). d.universe) (row_at h)) ∙ ap (λ (j : ℕ). universe_of (get_or ds j nothing)) (sym p) ∙ e)))
         (λ f. let h = ltb-false i n f in absent_end ltb universe_of ℕOrder u ds (omega arith))
 
-    taken : Sought u n rows (At i) → remove ltb universe_of u ds ≡ remove_at i ds
+    taken : Sought u n rows (Ok i) → remove ltb universe_of u ds ≡ remove_at i ds
     taken s = remove_place ltb universe_of ℕOrder u ds (get_or (entries rows store) i nothing) (found_at s) ∙ ap (λ (j : ℕ). remove_at j ds) (placed s.0)
 
     -- ── `clear_waiting_data` ──
-    pub clears : (rows' : List (List ℕ)) (store' : List ℕ) → Sought u n rows (At i) → Held rows store rows' store' (n - 1) (remove_at i (take n (entries rows store)))
+    pub clears : (rows' : List (List ℕ)) (store' : List ℕ) → Sought u n rows (Ok i) → Held rows store rows' store' (n - 1) (remove_at i (take n (entries rows store)))
         → Yields rows store rows' store' (n - 1) (cleared u ds).0 × (true ≡ (cleared u ds).1)
     unfolding cleared
     clears rows' store' s c =
         let b = k.count_fits in
         (yield n (n - 1) rows rows' store store' (remove ltb universe_of u ds) k c.lends (omega arith) (c.holds ∙ sym (taken s)) (unfold cleared in (ordered_cleared u ds (kept_ordered k)).ascends), ap held (sym (found_at s)))
 
-    pub clears_none : Sought u n rows (Before i) → Yields rows store rows store n (cleared u ds).0 × (false ≡ (cleared u ds).1)
+    pub clears_none : Sought u n rows (Err i) → Yields rows store rows store n (cleared u ds).0 × (false ≡ (cleared u ds).1)
     unfolding cleared
     clears_none s =
         (unchanged n rows store (remove ltb universe_of u ds) k (sym (remove_absent ltb universe_of ℕOrder u ds (found_none s))), ap held (sym (found_none s)))
@@ -173,12 +174,12 @@ module _ (n : ℕ) (rows : List (List ℕ)) (store : List ℕ) (k : Kept n rows 
           full_unchanged = z;
         }
 
-    pub stores_full : Sought (universe_of p) n rows (Before i) → capacity ≤ n → StoredCall n rows store choice p rows store n WaitingFull
+    pub stores_full : Sought (universe_of p) n rows (Err i) → capacity ≤ n → StoredCall n rows store choice p rows store n WaitingFull
     stores_full s h =
         let l = length_waiting k in
         making rows store n WaitingFull ds (stored_full choice p ds (found_none (universe_of p) i s) (le-leb capacity (length ds) (omega arith))) (λ e. (refl, refl)) (lent_none rows store) k.count_fits refl
 
-    pub stores_new : (rows' : List (List ℕ)) (store' : List ℕ) → Sought (universe_of p) n rows (Before i) → n < capacity
+    pub stores_new : (rows' : List (List ℕ)) (store' : List ℕ) → Sought (universe_of p) n rows (Err i) → n < capacity
         → Held rows store rows' store' (n + 1) (insert_at i p (take n (entries rows store))) → StoredCall n rows store choice p rows' store' (n + 1) Stored
     stores_new rows' store' s h c =
         let l = length_waiting k in
@@ -186,7 +187,7 @@ module _ (n : ℕ) (rows : List (List ℕ)) (store : List ℕ) (k : Kept n rows 
         making rows' store' (n + 1) Stored (put ltb universe_of p ds) (stored_new choice p ds (found_none (universe_of p) i s) (lt-leb capacity (length ds) (omega arith))) (λ z. not_full z) c.lends (omega arith) (c.holds ∙ sym e)
 
     -- the merge of the entry found
-    module _ (s : Sought (universe_of p) n rows (At i)) where
+    module _ (s : Sought (universe_of p) n rows (Ok i)) where
       abbrev waits : Dmx
       waits = get_or (entries rows store) i nothing
 
@@ -215,18 +216,18 @@ module _ (n : ℕ) (rows : List (List ℕ)) (store : List ℕ) (k : Kept n rows 
               (c.holds ∙ ap (λ (x : List Dmx). remove_at i (take n x)) j.changed.becomes ∙ sym (taken (universe_of p) i s))
 
   -- ── `check_waiting_data_timeouts` ──
-  pub sweeps : (now : ℕ) (rows' : List (List ℕ)) (store' : List ℕ) (m : ℕ) → any (λ row. not (not (expired now (head_of row).recv_timestamp))) (take n rows) ≡ true → m ≤ n
+  pub sweeps : (now : ℕ) (rows' : List (List ℕ)) (store' : List ℕ) (m : ℕ) → list_any (λ row. not (not (expired now (head_of row).recv_timestamp))) (take n rows) ≡ true → m ≤ n
       → Held rows store rows' store' m (keep (fresh now) (take n (entries rows store))) → SweptCall n rows store now rows' store' m
   sweeps now rows' store' m e h c =
       let b = k.count_fits in
       record {
         yields = yield n m rows rows' store store' (swept now ds) k c.lends (omega arith) c.holds (ordered_swept now ds (kept_ordered k)).ascends;
-        quiet = λ q. clash (sym (any_entries (λ (d : DmxData). not (not (expired now d.recv_timestamp))) n rows store) ∙ e) q;
+        quiet = λ q. clash (sym (any_entries (λ (d : DmxData). not (not (expired now d.recv_timestamp))) n rows store) ∙ any_is (λ row. not (not (expired now (head_of row).recv_timestamp))) (take n rows) ∙ e) q;
       }
 
-  pub sweeps_none : (now : ℕ) → any (λ row. not (not (expired now (head_of row).recv_timestamp))) (take n rows) ≡ false → SweptCall n rows store now rows store n
+  pub sweeps_none : (now : ℕ) → list_any (λ row. not (not (expired now (head_of row).recv_timestamp))) (take n rows) ≡ false → SweptCall n rows store now rows store n
   sweeps_none now e =
-      let q = sym (any_entries (λ (d : DmxData). not (not (expired now d.recv_timestamp))) n rows store) ∙ e in
+      let q = sym (any_entries (λ (d : DmxData). not (not (expired now d.recv_timestamp))) n rows store) ∙ any_is (λ row. not (not (expired now (head_of row).recv_timestamp))) (take n rows) ∙ e in
       record {
         yields = unchanged n rows store (swept now ds) k (sym (keep_all (fresh now) (λ d. not (fresh now d)) ds (λ d h. back (fresh now d) h) q));
         quiet = λ z. (refl, refl);
@@ -343,7 +344,7 @@ module _ (n : ℕ) (rows : List (List ℕ)) (store : List ℕ) (now a : ℕ) (ou
       }
 
 -- a place to insert at is within the count
-pub before_within : (u n i : ℕ) (rows : List (List ℕ)) → Sought u n rows (Before i) → i ≤ n
+pub before_within : (u n i : ℕ) (rows : List (List ℕ)) → Sought u n rows (Err i) → i ≤ n
 before_within u n i rows s = omega (arith, s.0, prefix_le (λ row. below u (head_of row)) (take n rows), length-take n rows)
 
 -- ── the read-outs ──

@@ -9,12 +9,13 @@ ghost use Rattle.waiting_store.specs.Entries.{nothing, waiting_of, Kept};
 ghost use Rattle.waiting_store.specs.Promises.{waiting_before};
 ghost use Rattle.waiting_calls.specs.Calls.{Empty, YieldsIn, StoreCalled, ReleaseCalled, SweptCall};
 
+use laws::After;
 use merge::{DmxData, VALUES};
 use settings::MergeChoice;
 use waiting::{RELEASE_LENGTH, ReleaseAnswer, StoreAnswer, StoreCall, WAITING};
 use waiting_joins::join_entry;
 use waiting_store::{
-    EntryRows, Found, Retain, any_dropped, compact, count_of, find_universe, head_of, insert_at,
+    EntryRows, Retain, any_dropped, compact, count_of, find_universe, head_of, insert_at,
     remove_at, write_release,
 };
 
@@ -22,24 +23,6 @@ use waiting_store::{
 #[derive(Clone, Copy)]
 pub struct Waiting {
     pub count: usize,
-}
-
-#[derive(Clone, Copy)]
-pub struct Stored {
-    pub waiting: Waiting,
-    pub answer: StoreCall,
-}
-
-#[derive(Clone, Copy)]
-pub struct Cleared {
-    pub waiting: Waiting,
-    pub held: bool,
-}
-
-#[derive(Clone, Copy)]
-pub struct Released {
-    pub waiting: Waiting,
-    pub answer: ReleaseAnswer,
 }
 
 impl Waiting {
@@ -63,45 +46,45 @@ impl Waiting {
         choice: MergeChoice,
         packet: DmxData,
         values: &[u8],
-    ) -> Stored
+    ) -> After<Waiting, StoreCall>
         requires { Kept self.count rows.old store.old }
         ensures { StoreCalled self.count rows.old store.old choice (dmx packet values.now)
-            rows.new store.new result.waiting.count result.answer }
+            rows.new store.new result.left.count result.answer }
     {
-        let n = self.count;
         if VALUES < values.len() {
-            return Stored {
-                waiting: Waiting { count: n },
+            return After {
+                left: self,
                 answer: StoreCall::TooLong(values.len()),
             };
         }
-        match find_universe(&*rows, n, packet.universe) {
-            Found::At(i) => {
-                if join_entry(&mut *rows, &mut *store, i, choice, packet, values) {
-                    return Stored {
-                        waiting: Waiting { count: n },
+        let n = self.count;
+        match find_universe(rows, n, packet.universe) {
+            Ok(i) => {
+                if join_entry(rows, store, i, choice, packet, values) {
+                    After {
+                        left: self,
                         answer: StoreCall::Taken(StoreAnswer::Stored),
-                    };
-                }
-                remove_at(&mut *rows, &mut *store, n, i);
-                let fewer = n - 1;
-                Stored {
-                    waiting: Waiting { count: fewer },
-                    answer: StoreCall::Taken(StoreAnswer::MergeRefused),
+                    }
+                } else {
+                    remove_at(rows, store, n, i);
+                    After {
+                        left: Waiting { count: n - 1 },
+                        answer: StoreCall::Taken(StoreAnswer::MergeRefused),
+                    }
                 }
             }
-            Found::Before(i) => {
+            Err(i) => {
                 if WAITING <= n {
-                    return Stored {
-                        waiting: Waiting { count: n },
+                    After {
+                        left: self,
                         answer: StoreCall::Taken(StoreAnswer::WaitingFull),
-                    };
-                }
-                insert_at(&mut *rows, &mut *store, n, i, packet, values);
-                let more = n + 1;
-                Stored {
-                    waiting: Waiting { count: more },
-                    answer: StoreCall::Taken(StoreAnswer::Stored),
+                    }
+                } else {
+                    insert_at(rows, store, n, i, packet, values);
+                    After {
+                        left: Waiting { count: n + 1 },
+                        answer: StoreCall::Taken(StoreAnswer::Stored),
+                    }
                 }
             }
         }
@@ -113,25 +96,25 @@ impl Waiting {
         rows: &mut EntryRows,
         store: &mut [u8],
         universe: u16,
-    ) -> Cleared
+    ) -> After<Waiting, bool>
         requires { Kept self.count rows.old store.old }
         ensures view { let ds = waiting_before self.count rows store in
-            YieldsIn rows store result.waiting.count (cleared universe ds).0 }
+            YieldsIn rows store result.left.count (cleared universe ds).0 }
         ensures answer { let ds = waiting_before self.count rows store in
-            result.held ≡ (cleared universe ds).1 }
+            result.answer ≡ (cleared universe ds).1 }
     {
         let n = self.count;
-        match find_universe(&*rows, n, universe) {
-            Found::At(i) => {
-                remove_at(&mut *rows, &mut *store, n, i);
-                Cleared {
-                    waiting: Waiting { count: n - 1 },
-                    held: true,
+        match find_universe(rows, n, universe) {
+            Ok(i) => {
+                remove_at(rows, store, n, i);
+                After {
+                    left: Waiting { count: n - 1 },
+                    answer: true,
                 }
             }
-            Found::Before(_) => Cleared {
-                waiting: Waiting { count: n },
-                held: false,
+            Err(_) => After {
+                left: self,
+                answer: false,
             },
         }
     }
@@ -147,13 +130,14 @@ impl Waiting {
         ensures { SweptCall self.count rows.old store.old reading
             rows.new store.new result.count }
     {
-        let n = self.count;
         let test = Retain::Fresh(reading);
-        if any_dropped(&*rows, n, test) {
-            let m = compact(&mut *rows, &mut *store, n, test);
-            return Waiting { count: m };
+        if any_dropped(rows, self.count, test) {
+            Waiting {
+                count: compact(rows, store, self.count, test),
+            }
+        } else {
+            self
         }
-        Waiting { count: n }
     }
 
     // All data of one address leaves, by ascending universe; what is not expired goes to the output as records. An output
@@ -165,36 +149,36 @@ impl Waiting {
         address: u16,
         reading: u64,
         out: &mut [u8],
-    ) -> Released
+    ) -> After<Waiting, ReleaseAnswer>
         requires { Kept self.count rows.old store.old }
         ensures { ReleaseCalled self.count rows.old store.old reading address out.old
-            rows.new store.new out.new result.waiting.count result.answer }
+            rows.new store.new out.new result.left.count result.answer }
     {
-        let n = self.count;
         if out.len() < RELEASE_LENGTH {
-            return Released {
-                waiting: Waiting { count: n },
+            return After {
+                left: self,
                 answer: ReleaseAnswer::OutputShort(RELEASE_LENGTH),
             };
         }
-        let w = write_release(&*rows, &*store, n, address, reading, &mut *out);
-        let m = compact(&mut *rows, &mut *store, n, Retain::OtherThan(address));
-        Released {
-            waiting: Waiting { count: m },
+        let n = self.count;
+        let w = write_release(rows, store, n, address, reading, out);
+        let count = compact(rows, store, n, Retain::OtherThan(address));
+        After {
+            left: Waiting { count },
             answer: ReleaseAnswer::Released(w.records, w.bytes),
         }
     }
 
     // For a dump: the header of the i-th universe that waits; past the last, a header of zeros.
     pub fn waiting_data(self, rows: &EntryRows, i: usize) -> DmxData
-        requires { (self.count ≤ capacity) × (length rows.now ≡ capacity) }
+        requires { self.count ≤ capacity }
         ensures { (store : List ℕ) → result ≡ (get_or (waiting_of self.count rows.now store) i nothing).head }
     {
         if i < self.count {
-            let row = rows[i];
-            return head_of(row);
+            head_of(rows[i])
+        } else {
+            head_of([0; 9])
         }
-        head_of([0u64; 9])
     }
 
     // And its values, where they lie; past the last, none.
@@ -203,11 +187,10 @@ impl Waiting {
         ensures { result.now ≡ (get_or (waiting_of self.count rows.now store.now) i nothing).values }
     {
         if i < self.count {
-            let row = rows[i];
-            let a = i * VALUES;
-            let b = a + count_of(row);
-            return &store[a..b];
+            let start = i * VALUES;
+            &store[start..start + count_of(rows[i])]
+        } else {
+            &store[..0]
         }
-        &store[0..0]
     }
 }

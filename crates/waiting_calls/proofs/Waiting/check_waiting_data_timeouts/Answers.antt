@@ -7,11 +7,11 @@ use Rattle.waiting_calls.proofs.Waiting.check_waiting_data_timeouts.Goals as goa
 pub returns-then-any_dropped : goal.returns-then-any_dropped
 returns-then-any_dropped c =
     let v = c.args in
-    let m = c.compact-m in
+    let m = c.compact in
     sweeps v.self.count v.rows.now v.store.now c.requires v.reading m.new.rows m.new.store m.result
     (sym c.any_dropped.ensures ∙ c.if-any_dropped.true) m.ensures.0 m.ensures.1
 
-pub returns : goal.returns
-returns c =
+pub returns-else-any_dropped : goal.returns-else-any_dropped
+returns-else-any_dropped c =
     let v = c.args in
     sweeps_none v.self.count v.rows.now v.store.now c.requires v.reading (sym c.any_dropped.ensures ∙ c.if-any_dropped.false)

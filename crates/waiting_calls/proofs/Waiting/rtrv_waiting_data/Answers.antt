@@ -11,7 +11,7 @@ returns-then-out-lt-RELEASE_LENGTH c =
 pub returns : goal.returns
 returns c =
     let v = c.args in
-    let m = c.compact-m in
+    let m = c.compact-count in
     let w = c.write_release-w in
     called_released v.self.count v.rows.now v.store.now v.reading v.address v.out.now m.new.rows m.new.store w.new.out m.result c.if-out-lt-RELEASE_LENGTH.false
     w.result.records w.result.bytes

@@ -8,8 +8,7 @@ use lib.ListN.{length, get_or}
 use Rattle.merge.specs.Merge.{most_values}
 use Rattle.merge.specs.Views.{dmx}
 use Rattle.waiting.specs.declared.StoreAnswer.TheVariants as store
-use Rattle.waiting_store.specs.declared.Found.{Found}
-use Rattle.waiting_store.specs.declared.Found.TheVariants.{At, Before}
+use Rattle.std.specs.Prelude.{Result, Ok, Err, ℕ}
 use Rattle.waiting.specs.Waiting.{merged}
 use Rattle.waiting_store.specs.Entries.{entries, nothing, lent_room}
 use Rattle.waiting_store.specs.Posts.{Sought}
@@ -30,9 +29,9 @@ join_entry-requires c =
     let n = v.self.count in
     let p = dmx v.packet v.values.now in
     let fits : length v.values.now ≤ most_values = c.if-values-gt-VALUES.false in
-    let i = c.in-At.i in
-    let at : Sought v.packet.universe n v.rows.now (At i) =
-    subst (λ (r : Found). Sought v.packet.universe n v.rows.now r) c.in-At.is c.find_universe.ensures in
+    let i = c.in-Ok.i in
+    let at : Sought v.packet.universe n v.rows.now (Ok i) =
+    subst (λ (r : Result ℕ ℕ). Sought v.packet.universe n v.rows.now r) c.in-Ok.is c.find_universe.ensures in
     (c.requires.room, omega (arith, at.1, c.requires.count_fits), fits)
 
 pub returns-then-join_entry : goal.returns-then-join_entry
@@ -41,9 +40,9 @@ returns-then-join_entry c =
     let n = v.self.count in
     let p = dmx v.packet v.values.now in
     let fits : length v.values.now ≤ most_values = c.if-values-gt-VALUES.false in
-    let i = c.in-At.i in
-    let at : Sought v.packet.universe n v.rows.now (At i) =
-    subst (λ (r : Found). Sought v.packet.universe n v.rows.now r) c.in-At.is c.find_universe.ensures in
+    let i = c.in-Ok.i in
+    let at : Sought v.packet.universe n v.rows.now (Ok i) =
+    subst (λ (r : Result ℕ ℕ). Sought v.packet.universe n v.rows.now r) c.in-Ok.is c.find_universe.ensures in
     let j = c.join_entry in
     let joins = subst (λ (b : Bool). Joined v.rows.now v.store.now j.new.rows j.new.store i (merged v.choice (get_or (entries v.rows.now v.store.now) i nothing) p) b)
     c.if-join_entry.true j.ensures in
@@ -56,21 +55,10 @@ remove_at-requires c =
     let n = v.self.count in
     let p = dmx v.packet v.values.now in
     let fits : length v.values.now ≤ most_values = c.if-values-gt-VALUES.false in
-    let i = c.in-At.i in
-    let at : Sought v.packet.universe n v.rows.now (At i) =
-    subst (λ (r : Found). Sought v.packet.universe n v.rows.now r) c.in-At.is c.find_universe.ensures in
+    let i = c.in-Ok.i in
+    let at : Sought v.packet.universe n v.rows.now (Ok i) =
+    subst (λ (r : Result ℕ ℕ). Sought v.packet.universe n v.rows.now r) c.in-Ok.is c.find_universe.ensures in
     (lent_room c.requires.room c.join_entry.ensures.changed.lent, at.1, c.requires.count_fits)
-
-pub overflow_sub-fewer : goal.overflow_sub-fewer
-overflow_sub-fewer c =
-    let v = c.args in
-    let n = v.self.count in
-    let p = dmx v.packet v.values.now in
-    let fits : length v.values.now ≤ most_values = c.if-values-gt-VALUES.false in
-    let i = c.in-At.i in
-    let at : Sought v.packet.universe n v.rows.now (At i) =
-    subst (λ (r : Found). Sought v.packet.universe n v.rows.now r) c.in-At.is c.find_universe.ensures in
-    omega (arith, at.1)
 
 pub returns-then-n-ge-WAITING : goal.returns-then-n-ge-WAITING
 returns-then-n-ge-WAITING c =
@@ -78,9 +66,9 @@ returns-then-n-ge-WAITING c =
     let n = v.self.count in
     let p = dmx v.packet v.values.now in
     let fits : length v.values.now ≤ most_values = c.if-values-gt-VALUES.false in
-    let i = c.in-Before.i in
-    let before : Sought v.packet.universe n v.rows.now (Before i) =
-    subst (λ (r : Found). Sought v.packet.universe n v.rows.now r) c.in-Before.is c.find_universe.ensures in
+    let i = c.in-Err.i in
+    let before : Sought v.packet.universe n v.rows.now (Err i) =
+    subst (λ (r : Result ℕ ℕ). Sought v.packet.universe n v.rows.now r) c.in-Err.is c.find_universe.ensures in
     called_taken n v.rows.now v.store.now v.choice p v.rows.now v.store.now n fits store.WaitingFull
     (stores_full n v.rows.now v.store.now c.requires v.choice p i fits before c.if-n-ge-WAITING.true)
 
@@ -90,9 +78,9 @@ insert_at-requires c =
     let n = v.self.count in
     let p = dmx v.packet v.values.now in
     let fits : length v.values.now ≤ most_values = c.if-values-gt-VALUES.false in
-    let i = c.in-Before.i in
-    let before : Sought v.packet.universe n v.rows.now (Before i) =
-    subst (λ (r : Found). Sought v.packet.universe n v.rows.now r) c.in-Before.is c.find_universe.ensures in
+    let i = c.in-Err.i in
+    let before : Sought v.packet.universe n v.rows.now (Err i) =
+    subst (λ (r : Result ℕ ℕ). Sought v.packet.universe n v.rows.now r) c.in-Err.is c.find_universe.ensures in
     let w = before_within v.packet.universe n i v.rows.now before in
     (c.requires.room, omega arith, c.if-n-ge-WAITING.false, fits)
 
@@ -102,9 +90,9 @@ returns-else-join_entry c =
     let n = v.self.count in
     let p = dmx v.packet v.values.now in
     let fits : length v.values.now ≤ most_values = c.if-values-gt-VALUES.false in
-    let i = c.in-At.i in
-    let at : Sought v.packet.universe n v.rows.now (At i) =
-    subst (λ (r : Found). Sought v.packet.universe n v.rows.now r) c.in-At.is c.find_universe.ensures in
+    let i = c.in-Ok.i in
+    let at : Sought v.packet.universe n v.rows.now (Ok i) =
+    subst (λ (r : Result ℕ ℕ). Sought v.packet.universe n v.rows.now r) c.in-Ok.is c.find_universe.ensures in
     let j = c.join_entry in
     let joins = subst (λ (b : Bool). Joined v.rows.now v.store.now j.new.rows j.new.store i (merged v.choice (get_or (entries v.rows.now v.store.now) i nothing) p) b)
     c.if-join_entry.false j.ensures in
@@ -118,9 +106,9 @@ returns-else-n-ge-WAITING c =
     let n = v.self.count in
     let p = dmx v.packet v.values.now in
     let fits : length v.values.now ≤ most_values = c.if-values-gt-VALUES.false in
-    let i = c.in-Before.i in
-    let before : Sought v.packet.universe n v.rows.now (Before i) =
-    subst (λ (r : Found). Sought v.packet.universe n v.rows.now r) c.in-Before.is c.find_universe.ensures in
+    let i = c.in-Err.i in
+    let before : Sought v.packet.universe n v.rows.now (Err i) =
+    subst (λ (r : Result ℕ ℕ). Sought v.packet.universe n v.rows.now r) c.in-Err.is c.find_universe.ensures in
     let q = c.insert_at in
     called_taken n v.rows.now v.store.now v.choice p q.new.rows q.new.store (n + 1) fits store.Stored
     (stores_new n v.rows.now v.store.now c.requires v.choice p i fits q.new.rows q.new.store before c.if-n-ge-WAITING.false q.ensures)

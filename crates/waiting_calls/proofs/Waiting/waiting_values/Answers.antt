@@ -9,7 +9,7 @@ returns-then-i-self c =
     let v = c.args in
     values_at v.self.count v.i c.count_of.result v.rows.now v.store.now c.requires c.if-i-self.true c.count_of.ensures
 
-pub returns : goal.returns
-returns c =
+pub returns-else-i-self : goal.returns-else-i-self
+returns-else-i-self c =
     let v = c.args in
     values_past v.self.count v.i v.rows.now v.store.now (omega arith)
