@@ -1,6 +1,7 @@
 -- What is read out of the sources' rows: the k-th entry of a list that passes a test, where it stands, and how many there are.
 -- Assumes nothing.
-use Rattle.std.specs.Prelude.{◌≡◌, Bool, true, false, cond, eqb, ltb, drop, get_or}
+use Rattle.std.specs.Prelude.{◌≡◌, Bool, true, false, ltb, drop, get_or}
+use Rattle.std.specs.List.{fold}
 use Rattle.std.proofs.Math.Path.{refl, sym, ap}
 use Rattle.std.proofs.Common.{◌∙◌, drop_of_length-le, get_or-take, drop-drop, take-take}
 use mathlib.Core.List.{List, [], ◌∷◌}
@@ -14,8 +15,6 @@ use Rattle.laws.specs.Table.{keep}
 use Rattle.laws.specs.Arrays.{next}
 use Rattle.rules.specs.declared.Cid.{Cid}
 use Rattle.discovery_calls.specs.declared.Discovery.{Discovery}
-use Rattle.discovery_reads.specs.declared.SourceHead.{SourceHead}
-use Rattle.discovery_reads.specs.declared.PageHead.{PageHead}
 use Rattle.discovery.specs.Discovery.{Page, Source, capacity}
 use Rattle.discovery_rows.specs.Store.{pages_at, source_of, sources_at, view_of}
 use Rattle.discovery_rows.specs.Rows.{owned, head_of, leaf_at, heads, leaves, total, amount}
@@ -71,6 +70,12 @@ module _ {A : Type 0} (p : A → Bool) where
     pub count_none : p (get_or a r d) ≡ false → length (keep p (drop (r + 1) (take n a))) ≡ length (keep p (drop r (take n a)))
     unfolding keep
     count_none e = rw (next a n r d h l, e)
+
+-- a sum that stops at the most, row by row
+pub summed : (most : ℕ) (rows : List (List ℕ)) (start : ℕ) → start ≤ most → fold (λ (s : ℕ) (row : List ℕ). min (s + amount row) most) start rows ≡ min (start + total rows) most
+unfolding total
+summed most [] start h = omega arith
+summed most (row ∷ rows) start h = omega (arith, summed most rows (min (start + amount row) most) (omega arith))
 
 pub sources_count : (m : ℕ) (rs ns : List (List ℕ)) (Q : Cid → List Page) → length (sources_at m (heads rs ns) Q) ≡ length (keep (marked_row m) rs)
 unfolding sources_at heads keep

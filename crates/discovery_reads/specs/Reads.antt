@@ -1,25 +1,17 @@
 -- What is read out of the sources' rows: the k-th entry of a list that passes a test, where it stands, and how many there are.
 -- Assumes nothing.
-use Rattle.std.specs.Prelude.{◌≡◌, Bool, true, false, cond, eqb, ltb, drop, get_or}
-use Rattle.std.proofs.Math.Path.{refl, sym, ap}
-use Rattle.std.proofs.Common.{◌∙◌, drop_of_length-le, get_or-take, drop-drop, take-take}
+use Rattle.std.specs.Prelude.{◌≡◌, Bool, cond, eqb, drop, get_or}
 use mathlib.Core.List.{List, [], ◌∷◌}
-use Prim.Native.Nat.{ℕ, zero, suc, ◌+◌, ◌-◌, ◌≤◌, ◌<◌, min}
-use native.Mathlib.Omega.{arith}
-use Rattle.std.proofs.Math.ListN.{length, take, length-take, length-drop}
-use Rattle.std.proofs.Math.Seq.{take_all, take-nil}
-use borrow.Author.Tests.{ltb-true, ltb-false}
-use Rattle.laws.specs.Cases.{split}
-use Rattle.laws.specs.Table.{keep}
-use Rattle.laws.specs.Arrays.{next}
+use Prim.Native.Nat.{ℕ, zero, suc, ◌≤◌, ◌<◌}
+use Rattle.std.proofs.Math.ListN.{length, take}
 use Rattle.rules.specs.declared.Cid.{Cid}
 use Rattle.discovery_calls.specs.declared.Discovery.{Discovery}
 use Rattle.discovery_reads.specs.declared.SourceHead.{SourceHead}
 use Rattle.discovery_reads.specs.declared.PageHead.{PageHead}
-use Rattle.discovery.specs.Discovery.{Page, Source, capacity}
-use Rattle.discovery_rows.specs.Store.{pages_at, source_of, sources_at, view_of}
-use Rattle.discovery_rows.specs.Rows.{owned, head_of, leaf_at, heads, leaves, total, amount}
-use Rattle.discovery_calls.specs.View.{heads_of, leaves_of, discovered_of}
+use Rattle.discovery.specs.Discovery.{Page, Source}
+use Rattle.discovery_rows.specs.Store.{pages_at, source_of, sources_at}
+use Rattle.discovery_rows.specs.Rows.{head_of, total, amount}
+use Rattle.discovery_calls.specs.View.{heads_of, leaves_of}
 
 -- how many entries stand before the k-th that passes the test; all of them where there are not so many
 unfoldable pub nth : {A : Type 0} → (A → Bool) → ℕ → List A → ℕ

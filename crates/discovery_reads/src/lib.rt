@@ -12,7 +12,7 @@ ghost use Rattle.discovery_reads.specs.Reads.{nth, marked_row, page_of_row, Sour
 
 use discovery::PAGES;
 use discovery_calls::Discovery;
-use discovery_rows::owners::is_page_of;
+use discovery_rows::owners::{cid_of, is_owned};
 use discovery_rows::{HeadRow, HeadRows, PageRow, PageRows};
 use rules::Cid;
 
@@ -20,99 +20,73 @@ use rules::Cid;
 pub fn within(count: usize) -> usize
     ensures { result ≡ min count capacity }
 {
-    if PAGES < count {
-        return PAGES;
-    }
-    count
+    count.min(PAGES)
 }
 
-fn is_marked(row: HeadRow, mark: u64) -> bool
-    ensures { result ≡ marked_row mark row }
+fn is_marked(row: &HeadRow, mark: u64) -> bool
+    ensures { result ≡ marked_row mark row.now }
 {
     row[0] == mark
 }
 
 // How many sources have the mark.
 fn count_sources(sources: &HeadRows, count: usize, mark: u64) -> usize
-    requires { (count ≤ capacity) × (length sources.now ≡ capacity) }
+    requires { count ≤ capacity }
     ensures { result ≡ length (keep (marked_row mark) (take count sources.now)) }
 {
-    let mut n: usize = 0;
-    let mut i = 0;
-    while i < count {
-        let row = sources[i];
-        i += 1;
-        if is_marked(row, mark) {
-            n += 1;
-        }
-    }
-    n
+    sources[..count]
+        .iter()
+        .filter(|row| is_marked(*row, mark))
+        .count()
 }
 
 // Where the k-th source of the mark stands, from 0; count if there are not so many.
 fn nth_source(sources: &HeadRows, count: usize, mark: u64, k: usize) -> usize
-    requires { (count ≤ capacity) × (length sources.now ≡ capacity) }
+    requires { count ≤ capacity }
     ensures { result ≡ nth (marked_row mark) k (take count sources.now) }
 {
     let mut left = k;
-    let mut i = 0;
-    while i < count {
-        let row = sources[i];
-        if is_marked(row, mark) {
+    for i in 0..count {
+        if is_marked(&sources[i], mark) {
             if left == 0 {
                 return i;
             }
             left -= 1;
-            i += 1;
-        } else {
-            i += 1;
         }
     }
-    i
+    count
 }
 
 // How many pages the owner has.
 fn count_pages(pages: &PageRows, count: usize, mark: u64, cid: Cid) -> usize
-    requires { (count ≤ capacity) × (length pages.now ≡ capacity) }
+    requires { count ≤ capacity }
     ensures { result ≡ length (keep (owned mark cid) (take count pages.now)) }
 {
-    let mut n: usize = 0;
-    let mut i = 0;
-    while i < count {
-        let row = pages[i];
-        i += 1;
-        if is_page_of(row, mark, cid) {
-            n += 1;
-        }
-    }
-    n
+    pages[..count]
+        .iter()
+        .filter(|row| is_owned(*row, mark, cid))
+        .count()
 }
 
 // Where the owner's k-th page stands, from 0; count if there are not so many.
 fn nth_page(pages: &PageRows, count: usize, mark: u64, cid: Cid, k: usize) -> usize
-    requires { (count ≤ capacity) × (length pages.now ≡ capacity) }
+    requires { count ≤ capacity }
     ensures { result ≡ nth (owned mark cid) k (take count pages.now) }
 {
     let mut left = k;
-    let mut i = 0;
-    while i < count {
-        let row = pages[i];
-        if is_page_of(row, mark, cid) {
+    for i in 0..count {
+        if is_owned(&pages[i], mark, cid) {
             if left == 0 {
                 return i;
             }
             left -= 1;
-            i += 1;
-        } else {
-            i += 1;
         }
     }
-    i
+    count
 }
 
 // How many sources are partial.
 pub fn partial_count(discovery: Discovery, sources: &HeadRows) -> usize
-    requires { length sources.now ≡ capacity }
     ensures { (names pages : List (List ℕ)) (universes : List ℕ) →
         result ≡ length (discovered_of discovery sources.now names pages universes).partial }
 {
@@ -122,7 +96,6 @@ pub fn partial_count(discovery: Discovery, sources: &HeadRows) -> usize
 
 // How many sources are listed.
 pub fn listed_count(discovery: Discovery, sources: &HeadRows) -> usize
-    requires { length sources.now ≡ capacity }
     ensures { (names pages : List (List ℕ)) (universes : List ℕ) →
         result ≡ length (discovered_of discovery sources.now names pages universes).listed }
 {
@@ -132,21 +105,20 @@ pub fn listed_count(discovery: Discovery, sources: &HeadRows) -> usize
 
 // Which row holds the k-th partial source (mark 0) or the k-th listed one (mark 1), from 0; the count of sources if there are not so many.
 pub fn source_place(discovery: Discovery, sources: &HeadRows, mark: u64, k: usize) -> usize
-    requires { length sources.now ≡ capacity }
     ensures { (names pages : List (List ℕ)) (universes : List ℕ) →
         SourceAt mark k result discovery sources.now names pages universes }
 {
     let count = within(discovery.source_count);
     let place = nth_source(sources, count, mark, k);
     if count <= place {
-        return discovery.source_count;
+        discovery.source_count
+    } else {
+        place
     }
-    place
 }
 
 // How many pages the source of this mark has.
 pub fn page_total(discovery: Discovery, pages: &PageRows, mark: u64, cid: Cid) -> usize
-    requires { length pages.now ≡ capacity }
     ensures { (universes : List ℕ) → result ≡ length (pages_at mark (leaves_of discovery pages.now universes) cid) }
 {
     let count = within(discovery.page_count);
@@ -155,42 +127,32 @@ pub fn page_total(discovery: Discovery, pages: &PageRows, mark: u64, cid: Cid) -
 
 // Which row holds the k-th page of the source of this mark, from 0; the count of pages if it has not so many.
 pub fn place_of_page(discovery: Discovery, pages: &PageRows, mark: u64, cid: Cid, k: usize) -> usize
-    requires { length pages.now ≡ capacity }
     ensures { (universes : List ℕ) → PageAt mark cid k result discovery pages.now universes }
 {
     let count = within(discovery.page_count);
     let place = nth_page(pages, count, mark, cid, k);
     if count <= place {
-        return discovery.page_count;
+        discovery.page_count
+    } else {
+        place
     }
-    place
 }
 
 // Where the universes of the page in this row begin, or most if that is past it.
 pub fn page_start(pages: &PageRows, at: usize, most: usize) -> usize
-    requires { (at ≤ capacity) × (length pages.now ≡ capacity) }
+    requires { at ≤ capacity }
     ensures { result ≡ min (total (take at pages.now)) most }
 {
-    let mut start: usize = 0;
-    let mut i = 0;
-    while i < at {
-        let row = pages[i];
-        i += 1;
-        start = advance(start, row[4], most);
-    }
-    start
+    pages[..at]
+        .iter()
+        .fold(0, |start, row| advance(start, row[4], most))
 }
 
 // n further, but not past most.
 fn advance(start: usize, n: u64, most: usize) -> usize
-    requires { start ≤ most }
     ensures { result ≡ min (start + n) most }
 {
-    let left = most - start;
-    if left as u64 <= n {
-        return most;
-    }
-    start + n as usize
+    start.saturating_add(n as usize).min(most)
 }
 
 // The universes of the page in this row, as far as they lie in the pool; none past the last page.
@@ -200,19 +162,17 @@ pub fn page_universes<'a>(
     universes: &'a [u16],
     at: usize,
 ) -> &'a [u16]
-    requires { length pages.now ≡ capacity }
     ensures held { at < discovery.page_count →
         result.now ≡ (page_of_row pages.now universes.now at).universes }
     ensures past { discovery.page_count ≤ at → result.now ≡ [] }
 {
     let count = within(discovery.page_count);
     if count <= at {
-        return &universes[0..0];
+        return &[];
     }
     let most = universes.len();
     let start = page_start(pages, at, most);
-    let row = pages[at];
-    let end = advance(start, row[4], most);
+    let end = advance(start, pages[at][4], most);
     &universes[start..end]
 }
 
@@ -236,10 +196,7 @@ pub fn source_head(row: HeadRow) -> SourceHead
     ensures { HeadRead row result }
 {
     SourceHead {
-        cid: Cid {
-            hi: row[1],
-            lo: row[2],
-        },
+        cid: cid_of(&row),
         name_length: row[5],
         last_page: row[3],
         reading: row[4],

@@ -1,34 +1,15 @@
--- What is counted and what is left to count make up the whole.
+-- As many as the chain yields: this crate's word for the list of them and the library's say the same.
 -- Assumes nothing.
-use mathlib.Core.Path.{◌≡◌, sym, ◌∙◌}
-use mathlib.Core.Bool.{true, false}
-use mathlib.Core.List.{[]}
-use native.Mathlib.Omega.{arith}
-use lib.ListN.{get_or}
-use Rattle.laws.specs.Table.{keep}
-use Rattle.laws.specs.Arrays.{spent}
+use Rattle.std.proofs.Common.{length, take, sym, ap, ◌∙◌, rules, tests}
+use Rattle.std.proofs.lemmas.Iterator.{YieldsList-from_slice}
+use Rattle.std.proofs.lemmas.Iterator.Consumers.{count_from_yields_List, YieldsList-from_filter}
+use Rattle.laws.specs.Library.{keep_is}
 use Rattle.discovery_reads.specs.Reads.{marked_row}
-use Rattle.discovery_reads.proofs.ReadsLaws.{count_one, count_none}
 use Rattle.discovery_reads.proofs.count_sources.Goals as goal
 
-pub loop-i-preserved-then-is_marked : goal.loop-i-preserved-then-is_marked
-loop-i-preserved-then-is_marked c =
-    let w = c.loop-i in
-    let v = c.args in
-    let t : marked_row v.mark (get_or v.sources.now w.i []) ≡ true = sym c.is_marked.ensures ∙ c.if-is_marked.true in
-    (omega arith, omega arith, omega (arith, count_one (marked_row v.mark) v.sources.now v.count w.i [] (omega arith) (omega arith) t, w.invariant.2))
-
-pub loop-i-preserved : goal.loop-i-preserved
-loop-i-preserved c =
-    let w = c.loop-i in
-    let v = c.args in
-    let t : marked_row v.mark (get_or v.sources.now w.i []) ≡ false = sym c.is_marked.ensures ∙ c.if-is_marked.false in
-    (omega arith, omega arith, omega (arith, count_none (marked_row v.mark) v.sources.now v.count w.i [] (omega arith) (omega arith) t, w.invariant.2))
-
 pub returns : goal.returns
-unfolding keep
 returns c =
-    let w = c.loop-i in
-    let v = c.args in
-    let e = rw (spent v.sources.now v.count w.i (omega arith)) at w.invariant.2 in
-    omega (arith, e)
+    let rows = take c.args.count c.args.sources.now in
+    count_from_yields_List c.filter.result _ c.count.ensures.ran
+    (YieldsList-from_filter _ (marked_row c.args.mark) (YieldsList-from_slice rows (cc)) c.filter.ensures.closure (λ x b q k. search (rules, tests)))
+    ∙ ap length (sym (keep_is (marked_row c.args.mark) rows))

@@ -15,5 +15,5 @@ returns c =
     let v = s.args in
     let w = c.within-count in
     λ names pages universes. c.count_sources.ensures
-    ∙ ap (λ (rs : List (List ℕ)). length (keep (marked_row 1) rs)) (take_within v.discovery.source_count w.result v.sources.now s.requires w.ensures)
+    ∙ ap (λ (rs : List (List ℕ)). length (keep (marked_row 1) rs)) (take_within v.discovery.source_count w.result v.sources.now c.told-sources w.ensures)
     ∙ sym (listed_total v.discovery v.sources.now names pages universes)

@@ -1,23 +1,15 @@
--- The sum of the counts so far, but not past the most.
+-- The sum of the counts, but not past the most, after each row.
 -- Assumes nothing.
-use mathlib.Core.Path.{◌≡◌}
-use mathlib.Core.List.{[]}
-use Prim.Native.Nat.{◌+◌}
-use native.Mathlib.Omega.{arith}
-use lib.ListN.{take, get_or}
-use Rattle.discovery_rows.specs.Rows.{total, amount, total_more}
+use Rattle.std.proofs.Common.{List, ℕ, ◌+◌, zero-add, take, min, arith, ◌∙◌, rules, tests}
+use Rattle.std.proofs.lemmas.Iterator.{YieldsList-from_slice}
+use Rattle.std.proofs.lemmas.Iterator.Consumers.{fold_from_yields_List}
+use Rattle.discovery_rows.specs.Rows.{amount, total}
+use Rattle.discovery_reads.proofs.ReadsLaws.{summed}
 use Rattle.discovery_reads.proofs.page_start.Goals as goal
 
-pub loop-i-init : goal.loop-i-init
-unfolding total
-loop-i-init c = (omega arith, omega arith)
-
-pub loop-i-preserved : goal.loop-i-preserved
-loop-i-preserved c =
-    let w = c.loop-i in
-    let s = c in
-    let v = s.args in
-    let a = v.pages.now in
-    let h = c.loop-i-test.true in
-    let t : total (take (w.i + 1) a) ≡ total (take w.i a) + amount (get_or a w.i []) = total_more a w.i (omega (arith, s.requires.0, s.requires.1)) in
-    (omega arith, omega (arith, c.advance-start.ensures, w.invariant.1, t))
+pub returns : goal.returns
+returns c =
+    let v = c.args in
+    let rows = take v.at v.pages.now in
+    fold_from_yields_List _ (λ (start : ℕ) (row : List ℕ). min (start + amount row) v.most) 0 c.fold.result c.fold.ensures.ran (YieldsList-from_slice rows (cc)) (λ a x b q k. search (rules, tests))
+    ∙ (rw (zero-add (total rows)) at (summed v.most rows 0 (omega arith)))

@@ -15,5 +15,5 @@ returns c =
     let v = s.args in
     let w = c.within-count in
     λ universes. c.count_pages.ensures
-    ∙ ap (λ (rs : List (List ℕ)). length (keep (owned v.mark v.cid) rs)) (take_within v.discovery.page_count w.result v.pages.now s.requires w.ensures)
+    ∙ ap (λ (rs : List (List ℕ)). length (keep (owned v.mark v.cid) rs)) (take_within v.discovery.page_count w.result v.pages.now c.told-pages w.ensures)
     ∙ sym (page_number v.mark v.cid v.discovery v.pages.now universes)

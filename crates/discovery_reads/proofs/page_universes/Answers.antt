@@ -9,7 +9,7 @@ pub returns-then-count-at-clause-held : goal.returns-then-count-at-clause-held
 returns-then-count-at-clause-held c =
     let v = c.args in
     let w = c.within-count in
-    λ h. sym (page_missing v.pages.now v.universes.now v.at (omega (arith, w.ensures, c.requires)))
+    λ h. sym (page_missing v.pages.now v.universes.now v.at (omega (arith, w.ensures)))
 
 pub returns-clause-held : goal.returns-clause-held
 returns-clause-held c =

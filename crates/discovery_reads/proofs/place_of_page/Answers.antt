@@ -9,12 +9,12 @@ returns-then-count-place c =
     let v = s.args in
     let w = c.within-count in
     let x = c.nth_page-place in
-    λ universes. page_none v.mark v.cid v.discovery v.pages.now universes v.k w.result x.result s.requires w.ensures x.ensures c.if-count-place.true
+    λ universes. page_none v.mark v.cid v.discovery v.pages.now universes v.k w.result x.result c.told-pages w.ensures x.ensures c.if-count-place.true
 
-pub returns : goal.returns
-returns c =
+pub returns-else-count-place : goal.returns-else-count-place
+returns-else-count-place c =
     let s = c in
     let v = s.args in
     let w = c.within-count in
     let x = c.nth_page-place in
-    λ universes. page_at v.mark v.cid v.discovery v.pages.now universes v.k w.result x.result s.requires w.ensures x.ensures c.if-count-place.false
+    λ universes. page_at v.mark v.cid v.discovery v.pages.now universes v.k w.result x.result c.told-pages w.ensures x.ensures c.if-count-place.false

@@ -9,12 +9,12 @@ returns-then-count-place c =
     let v = s.args in
     let w = c.within-count in
     let x = c.nth_source-place in
-    λ names pages universes. source_none v.mark v.discovery v.sources.now names pages universes v.k w.result x.result s.requires w.ensures x.ensures c.if-count-place.true
+    λ names pages universes. source_none v.mark v.discovery v.sources.now names pages universes v.k w.result x.result c.told-sources w.ensures x.ensures c.if-count-place.true
 
-pub returns : goal.returns
-returns c =
+pub returns-else-count-place : goal.returns-else-count-place
+returns-else-count-place c =
     let s = c in
     let v = s.args in
     let w = c.within-count in
     let x = c.nth_source-place in
-    λ names pages universes. source_at v.mark v.discovery v.sources.now names pages universes v.k w.result x.result s.requires w.ensures x.ensures c.if-count-place.false
+    λ names pages universes. source_at v.mark v.discovery v.sources.now names pages universes v.k w.result x.result c.told-sources w.ensures x.ensures c.if-count-place.false
