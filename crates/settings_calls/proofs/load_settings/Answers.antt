@@ -1,4 +1,4 @@
--- One law for each return.
+-- The law of the last return.
 -- Assumes nothing.
 use mathlib.Core.Path.{sym, ap, ◌∙◌}
 use mathlib.Core.List.{List}
@@ -12,9 +12,9 @@ use Rattle.settings_store.proofs.ReturnsLaws.{all_bytes, loads_fields}
 use Rattle.settings_calls.specs.View.{layout_fields}
 use Rattle.settings_calls.proofs.load_settings.Goals as goal
 
-pub returns-then-is_marked : goal.returns-then-is_marked
-returns-then-is_marked c =
+pub returns : goal.returns
+returns c =
     let b = c.args.bytes.now in
-    let k = c.shared_slice_known-1.given in
-    loads_fields c.args.layouts b c.read_layout.result (layout_fields c.layout_of-layout.result) (all_bytes (drop 3 b) (λ i. rw (get_or-drop 3 b i 0) (omega (arith, k (3 + i))))) (omega (arith, c.if-bytes-lt3.false)) (sym c.is_marked.ensures ∙ c.if-is_marked.true) c.layout_of-layout.ensures
+    let k = c.type_inv.bytes in
+    loads_fields c.args.layouts b c.read_layout.result (layout_fields c.layout_of-layout.result) (all_bytes (drop 3 b) (λ i. rw (get_or-drop 3 b i 0) (omega (arith, k (3 + i))))) (omega (arith, c.if-bytes-lt3.false)) (sym c.is_marked.ensures ∙ c.if-not-is_marked.false) c.layout_of-layout.ensures
     (c.read_layout.ensures ∙ ap (λ (p : List ℕ). of_layout (layout_fields c.layout_of-layout.result) p) (part_rest b 3))
