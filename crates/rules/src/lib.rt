@@ -9,7 +9,7 @@ ghost use Rattle.rules.specs.Age.{age, aged, expired};
 ghost use Rattle.rules.specs.Cid.{cid_of, cid_bytes, same, before};
 ghost use Rattle.rules.specs.Bytes.{number, big_endian, turned_of};
 
-// The sequence number of a data packet.
+// The sequence number of a data packet. Document 01 names this type and the next, so that they are not one generic type.
 #[derive(Clone, Copy)]
 pub struct DataSequence(pub u8);
 
@@ -24,7 +24,7 @@ pub struct Cid {
     pub lo: u64,
 }
 
-// The universes that data and synchronisation may use. The ranges are the rule's own, in its order (document 01, 'Number rules').
+// The universes that data and synchronisation may use. Document 01 names this form, a match with ranges.
 pub fn is_universe_in_range(universe: u16) -> bool
     ensures { result ≡ legal universe }
 {
@@ -58,7 +58,7 @@ pub fn magnitude(d: i8) -> u8
     d.unsigned_abs()
 }
 
-// What the sequence rule answers (document 02, F-4).
+// What the sequence rule answers (document 02, F-4). An enum by document 01's rule on answers: each case has its number and values.
 #[derive(Clone, Copy)]
 pub enum SequenceAnswer {
     Accepted,
