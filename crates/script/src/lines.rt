@@ -43,10 +43,10 @@ fn refill(mut from: Stdin, input: Input, chunk: &mut [u8]) -> Input
     if input.at < input.end {
         return input;
     }
-    match from.read(&mut *chunk) {
-        Ok(n) => Input {
+    match from.read(chunk) {
+        Ok(end) => Input {
             at: 0,
-            end: n,
+            end,
             failed: false,
         },
         Err(_) => Input {
@@ -62,41 +62,28 @@ fn append(line: &mut [u8], n: usize, part: &[u8]) -> usize
     requires { n ≤ length line.old }
     ensures { Appended line.old n part.now line.new result }
 {
-    let mut k = n;
-    let mut i: usize = 0;
-    while i < part.len() {
-        if line.len() <= k {
-            return k;
-        }
-        line[k] = part[i];
-        k += 1;
-        i += 1;
-    }
-    k
+    let end = n + (line.len() - n).min(part.len());
+    line[n..end].copy_from_slice(&part[..end - n]);
+    end
 }
 
 // Fewer bytes were kept than there were, now or before.
 pub fn is_longer(before: bool, kept: usize, all: usize) -> bool
     ensures { result ≡ (before || ltb kept all) }
 {
-    if before {
-        return true;
-    }
-    kept < all
+    before || kept < all
 }
 
 // The first n bytes without a carriage return at their end.
+#[tactic(auto, unfolding(crate::specs::Lines::unreturned))]
 pub fn without_return(text: &[u8], n: usize) -> &[u8]
     requires { n ≤ length text.now }
     ensures { result.now ≡ unreturned (take n text.now) }
 {
-    if n == 0 {
-        return &text[..n];
+    match &text[..n] {
+        [line @ .., b'\r'] => line,
+        line => line,
     }
-    if text[n - 1] == 13 {
-        return &text[..n - 1];
-    }
-    &text[..n]
 }
 
 // The chunk's bytes up to the line's end or the chunk's.
@@ -104,46 +91,21 @@ fn take_piece(line: Line, chunk: &[u8], text: &mut [u8]) -> Line
     requires { Unread line.input.at line.input.end chunk.now × (line.length ≤ length text.old) }
     ensures { Pieced line chunk.now text.old result text.new }
 {
-    let input = line.input;
-    let at = input.at;
-    let end = input.end;
-    let n = line.length;
+    let Input { at, end, .. } = line.input;
     let rest = &chunk[at..end];
-    let e = field_end(rest, 10);
-    let m = append(&mut *text, n, &rest[..e]);
-    let long = is_longer(line.long, m - n, e);
-    if e < rest.len() {
-        return Line {
-            input: Input {
-                at: at + e + 1,
-                end: end,
-                failed: false,
-            },
-            length: m,
-            long: long,
-            over: true,
-            ended: false,
-        };
-    }
+    let e = field_end(rest, b'\n');
+    let length = append(text, line.length, &rest[..e]);
+    let over = e < rest.len();
     Line {
         input: Input {
-            at: end,
-            end: end,
-            failed: false,
+            at: if over { at + e + 1 } else { end },
+            ..line.input
         },
-        length: m,
-        long: long,
-        over: false,
-        ended: false,
+        length,
+        long: is_longer(line.long, length - line.length, e),
+        over,
+        ..line
     }
-}
-
-// Nothing more comes: the input has ended, or cannot be read.
-fn is_ended(failed: bool, kept: usize) -> bool {
-    if failed {
-        return true;
-    }
-    kept == 0
 }
 
 // One piece more of a line. Where the input ends, what there is of a line counts; where it cannot be read, nothing does.
@@ -151,53 +113,42 @@ fn gather(from: Stdin, line: Line, chunk: &mut [u8], text: &mut [u8]) -> Line
     requires { Unread line.input.at line.input.end chunk.old × (line.length ≤ length text.old) }
     ensures { Unread result.input.at result.input.end chunk.new × (result.length ≤ length text.new) }
 {
-    let old = line.input;
-    let input = refill(from, old, &mut *chunk);
+    let input = refill(from, line.input, chunk);
     if input.at < input.end {
-        let begun = Line {
-            input: input,
-            length: line.length,
-            long: line.long,
-            over: false,
-            ended: false,
-        };
-        return take_piece(begun, &*chunk, text);
-    }
-    Line {
-        input: input,
-        length: line.length,
-        long: line.long,
-        over: true,
-        ended: is_ended(input.failed, line.length),
+        take_piece(Line { input, ..line }, chunk, text)
+    } else {
+        Line {
+            input,
+            over: true,
+            ended: input.failed || line.length == 0,
+            ..line
+        }
     }
 }
 
-// The next line; none where the input has ended. Nothing says that an input ends, so the pieces are counted down from a number that no run uses up.
+// The next line; none where the input has ended. Nothing says that an input ends, so the pieces are counted, up to a number that no run comes to.
 pub fn next_line(from: Stdin, input: Input, chunk: &mut [u8], text: &mut [u8]) -> Line
     requires { Unread input.at input.end chunk.old }
     ensures { Unread result.input.at result.input.end chunk.new × (result.length ≤ length text.new) }
 {
     let mut line = Line {
-        input: input,
+        input,
         length: 0,
         long: false,
         over: false,
         ended: false,
     };
-    let mut turns: u64 = 0xFFFF_FFFF_FFFF_FFFF;
-    while 0 < turns {
-        line = gather(from, line, &mut *chunk, &mut *text);
+    for _ in 0..u64::MAX {
+        line = gather(from, line, chunk, text);
         if line.over {
             return line;
         }
-        turns -= 1;
     }
-    let last = line.input;
     Line {
-        input: last,
         length: 0,
         long: false,
         over: true,
         ended: true,
+        ..line
     }
 }

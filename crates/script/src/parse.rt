@@ -1,10 +1,11 @@
-// A line of the script as a command.
+// A line of the script as a command: None where the line says nothing.
 ghost use Rattle.std.specs.Prelude.{◌≡◌, List, ℕ, length};
+ghost use Rattle.script.specs.Fields.{number_of};
 ghost use Rattle.script.specs.Script.{first_of, rest_of, past_five, lone_of, record_word, setting_word, call_word, word_of, setting_of, universe_of, reading_of, merge_of, limit_of, expiry_of, raw_limit_of, raw_expiry_of, store_of, layouts_of, load_of, record_of, stamp_of, numbers_of, data_packet, data_of, sync_of, discovery_of, listen_of, fields_of, line_of, Reads};
 
 use crate::line_fields::{
-    Count, Flag, Number, Octet, Small, Source, field_end, is_same, parse_byte_string, parse_flag,
-    parse_list, parse_number, parse_octet, parse_options, parse_small, parse_source,
+    field_end, parse_byte_string, parse_flag, parse_list, parse_number, parse_octet, parse_options,
+    parse_small, parse_source,
 };
 use packets::{DataPacket, DiscoveryPacket, SyncPacket};
 use rules::{Cid, DataSequence, SyncSequence};
@@ -70,7 +71,6 @@ pub enum Reset {
 
 #[derive(Clone, Copy)]
 pub enum Command {
-    Error,
     Fresh,
     Set(Setting),
     Settings(SettingsLine),
@@ -122,7 +122,6 @@ pub enum ReadingWord {
 
 #[derive(Clone, Copy)]
 pub enum Word {
-    Unknown,
     Data,
     Sync,
     Discovery,
@@ -136,209 +135,179 @@ pub enum Word {
     Reading(ReadingWord),
 }
 
-const MOST: u64 = 0xFFFF_FFFF_FFFF_FFFF;
-
 // The first field.
 fn first(text: &[u8]) -> &[u8]
     ensures { result.now ≡ first_of text.now }
 {
-    let e = field_end(text, 32);
-    &text[..e]
+    &text[..field_end(text, b' ')]
 }
 
 // What stands behind the first field and its space; nothing where there is no space.
 fn rest(text: &[u8]) -> &[u8]
     ensures { result.now ≡ rest_of text.now }
 {
-    let e = field_end(text, 32);
+    let e = field_end(text, b' ');
     if e < text.len() {
-        let next = e + 1;
-        return &text[next..];
+        &text[e + 1..]
+    } else {
+        &text[e..]
     }
-    &text[e..]
 }
 
-fn record_word(word: &[u8]) -> Word
+// A `match` on the words gets no proof: it compares byte after byte, and each place where a word may differ is a goal of its own.
+#[tactic(auto, unfolding(crate::specs::Script::record_word))]
+fn record_word(word: &[u8]) -> Option<Word>
     ensures { result ≡ record_word word.now }
 {
-    if is_same(word, b"raw_limit") {
-        return Word::Record(RecordWord::RawLimit);
+    if word == b"raw_limit".as_slice() {
+        Some(Word::Record(RecordWord::RawLimit))
+    } else if word == b"raw_expiry".as_slice() {
+        Some(Word::Record(RecordWord::RawExpiry))
+    } else if word == b"store_settings".as_slice() {
+        Some(Word::Record(RecordWord::Store))
+    } else if word == b"load_settings".as_slice() {
+        Some(Word::Record(RecordWord::Load))
+    } else {
+        None
     }
-    if is_same(word, b"raw_expiry") {
-        return Word::Record(RecordWord::RawExpiry);
-    }
-    if is_same(word, b"store_settings") {
-        return Word::Record(RecordWord::Store);
-    }
-    if is_same(word, b"load_settings") {
-        return Word::Record(RecordWord::Load);
-    }
-    Word::Unknown
 }
 
-fn setting_word(word: &[u8]) -> Word
+#[tactic(auto, unfolding(crate::specs::Script::setting_word))]
+fn setting_word(word: &[u8]) -> Option<Word>
     ensures { result ≡ setting_word word.now }
 {
-    if is_same(word, b"preview") {
-        return Word::Setting(SettingWord::Preview);
+    if word == b"preview".as_slice() {
+        Some(Word::Setting(SettingWord::Preview))
+    } else if word == b"announce_discovery".as_slice() {
+        Some(Word::Setting(SettingWord::Discovery))
+    } else if word == b"announce_termination".as_slice() {
+        Some(Word::Setting(SettingWord::Termination))
+    } else if word == b"announce_timeout".as_slice() {
+        Some(Word::Setting(SettingWord::Timeout))
+    } else if word == b"merge".as_slice() {
+        Some(Word::Merge)
+    } else if word == b"limit".as_slice() {
+        Some(Word::Limit)
+    } else if word == b"expiry".as_slice() {
+        Some(Word::Expiry)
+    } else {
+        record_word(word)
     }
-    if is_same(word, b"announce_discovery") {
-        return Word::Setting(SettingWord::Discovery);
-    }
-    if is_same(word, b"announce_termination") {
-        return Word::Setting(SettingWord::Termination);
-    }
-    if is_same(word, b"announce_timeout") {
-        return Word::Setting(SettingWord::Timeout);
-    }
-    if is_same(word, b"merge") {
-        return Word::Merge;
-    }
-    if is_same(word, b"limit") {
-        return Word::Limit;
-    }
-    if is_same(word, b"expiry") {
-        return Word::Expiry;
-    }
-    record_word(word)
 }
 
-fn call_word(word: &[u8]) -> Word
+#[tactic(auto, unfolding(crate::specs::Script::call_word))]
+fn call_word(word: &[u8]) -> Option<Word>
     ensures { result ≡ call_word word.now }
 {
-    if is_same(word, b"listen") {
-        return Word::Listen;
+    if word == b"listen".as_slice() {
+        Some(Word::Listen)
+    } else if word == b"mute".as_slice() {
+        Some(Word::Universe(UniverseWord::Mute))
+    } else if word == b"listening".as_slice() {
+        Some(Word::Universe(UniverseWord::Listening))
+    } else if word == b"clear".as_slice() {
+        Some(Word::Universe(UniverseWord::Clear))
+    } else if word == b"poll".as_slice() {
+        Some(Word::Reading(ReadingWord::Poll))
+    } else if word == b"sweep".as_slice() {
+        Some(Word::Reading(ReadingWord::Sweep))
+    } else {
+        setting_word(word)
     }
-    if is_same(word, b"mute") {
-        return Word::Universe(UniverseWord::Mute);
-    }
-    if is_same(word, b"listening") {
-        return Word::Universe(UniverseWord::Listening);
-    }
-    if is_same(word, b"clear") {
-        return Word::Universe(UniverseWord::Clear);
-    }
-    if is_same(word, b"poll") {
-        return Word::Reading(ReadingWord::Poll);
-    }
-    if is_same(word, b"sweep") {
-        return Word::Reading(ReadingWord::Sweep);
-    }
-    setting_word(word)
 }
 
 // Packets are the most frequent, so their words are looked for first.
-fn parse_word(word: &[u8]) -> Word
+fn parse_word(word: &[u8]) -> Option<Word>
     ensures { result ≡ word_of word.now }
 {
-    if is_same(word, b"data") {
-        return Word::Data;
+    if word == b"data".as_slice() {
+        Some(Word::Data)
+    } else if word == b"sync".as_slice() {
+        Some(Word::Sync)
+    } else if word == b"discovery".as_slice() {
+        Some(Word::Discovery)
+    } else {
+        call_word(word)
     }
-    if is_same(word, b"sync") {
-        return Word::Sync;
-    }
-    if is_same(word, b"discovery") {
-        return Word::Discovery;
-    }
-    call_word(word)
 }
 
-fn parse_merge(field: &[u8]) -> Command
+fn parse_merge(field: &[u8]) -> Option<Command>
     ensures { result ≡ merge_of field.now }
 {
-    if is_same(field, b"priority") {
-        return Command::Set(Setting::Merge(MergeChoice::DiscardLowestPriorityThenPrevious));
-    }
-    if is_same(field, b"highest") {
-        return Command::Set(Setting::Merge(MergeChoice::HtpDmxMerge));
-    }
-    Command::Error
+    let choice = if field == b"priority".as_slice() {
+        MergeChoice::DiscardLowestPriorityThenPrevious
+    } else if field == b"highest".as_slice() {
+        MergeChoice::HtpDmxMerge
+    } else {
+        return None;
+    };
+    Some(Command::Set(Setting::Merge(choice)))
 }
 
-fn parse_limit(field: &[u8]) -> Command
+fn parse_limit(field: &[u8]) -> Option<Command>
     ensures { result ≡ limit_of field.now }
 {
-    if is_same(field, b"none") {
-        return Command::Set(Setting::NoLimit);
+    match field {
+        b"none" => Some(Command::Set(Setting::NoLimit)),
+        _ => Some(Command::Set(Setting::Limit(parse_small(field)?))),
     }
-    let Small::Of(n) = parse_small(field) else {
-        return Command::Error;
-    };
-    Command::Set(Setting::Limit(n))
 }
 
 // A number of 32 bits.
-fn parse_expiry(field: &[u8]) -> Command
+fn parse_medium(field: &[u8]) -> Option<u32>
+    ensures { result ≡ number_of 4294967295 field.now }
+{
+    u32::try_from(parse_number(field, 0xFFFF_FFFF)?).ok()
+}
+
+fn parse_expiry(field: &[u8]) -> Option<Command>
     ensures { result ≡ expiry_of field.now }
 {
-    let Number::Of(n) = parse_number(field, 0xFFFF_FFFF) else {
-        return Command::Error;
-    };
-    Command::Set(Setting::Expiry(n as u32))
+    Some(Command::Set(Setting::Expiry(parse_medium(field)?)))
 }
 
-fn parse_raw_limit(field: &[u8]) -> Command
+fn parse_raw_limit(field: &[u8]) -> Option<Command>
     ensures { result ≡ raw_limit_of field.now }
 {
-    let Small::Of(n) = parse_small(field) else {
-        return Command::Error;
-    };
-    Command::Set(Setting::RawLimit(n))
+    Some(Command::Set(Setting::RawLimit(parse_small(field)?)))
 }
 
-fn parse_raw_expiry(field: &[u8]) -> Command
+fn parse_raw_expiry(field: &[u8]) -> Option<Command>
     ensures { result ≡ raw_expiry_of field.now }
 {
-    let Number::Of(n) = parse_number(field, 0xFFFF_FFFF) else {
-        return Command::Error;
-    };
-    Command::Set(Setting::RawExpiry(n as u32))
+    Some(Command::Set(Setting::RawExpiry(parse_medium(field)?)))
 }
 
-fn parse_store(field: &[u8]) -> Command
+fn parse_store(field: &[u8]) -> Option<Command>
     ensures { result ≡ store_of field.now }
 {
-    let Number::Of(n) = parse_number(field, 64) else {
-        return Command::Error;
-    };
-    Command::Settings(SettingsLine::Store(n as u8))
+    let n = u8::try_from(parse_number(field, 64)?).ok()?;
+    Some(Command::Settings(SettingsLine::Store(n)))
 }
 
-// The layouts that a reader is to know.
-#[derive(Clone, Copy)]
-pub enum Known {
-    Of(Layouts),
-    Bad,
-}
-
-// Both, or the first alone where a second field says 1.
-fn parse_layouts(fields: &[u8]) -> Known
+// The layouts that a reader is to know: both, or the first alone where a second field says 1.
+fn parse_layouts(fields: &[u8]) -> Option<Layouts>
     ensures { result ≡ layouts_of fields.now }
 {
-    let e = field_end(fields, 32);
-    if e < fields.len() {
-        if is_same(rest(fields), b"1") {
-            return Known::Of(Layouts::First);
-        }
-        return Known::Bad;
+    if fields.len() <= field_end(fields, b' ') {
+        return Some(Layouts::Both);
     }
-    Known::Of(Layouts::Both)
+    match rest(fields) {
+        b"1" => Some(Layouts::First),
+        _ => None,
+    }
 }
 
-fn parse_load(fields: &[u8], bytes: &mut [u8]) -> Command
+fn parse_load(fields: &[u8], bytes: &mut [u8]) -> Option<Command>
     ensures { (us : List ℕ) → Reads (load_of (length «bytes».old) fields.now) result «bytes».new
         us }
 {
-    let Known::Of(layouts) = parse_layouts(fields) else {
-        return Command::Error;
-    };
-    let Count::Of(n) = parse_byte_string(first(fields), bytes) else {
-        return Command::Error;
-    };
-    Command::Settings(SettingsLine::Load(n, layouts))
+    let layouts = parse_layouts(fields)?;
+    let n = parse_byte_string(first(fields), bytes)?;
+    Some(Command::Settings(SettingsLine::Load(n, layouts)))
 }
 
-fn parse_record(word: RecordWord, fields: &[u8], bytes: &mut [u8]) -> Command
+fn parse_record(word: RecordWord, fields: &[u8], bytes: &mut [u8]) -> Option<Command>
     ensures { (us : List ℕ) → Reads (record_of (length «bytes».old) word fields.now) result
         «bytes».new us }
 {
@@ -357,23 +326,12 @@ pub struct Stamp {
     pub cid: Cid,
 }
 
-#[derive(Clone, Copy)]
-pub enum Stamped {
-    Of(Stamp),
-    Bad,
-}
-
-fn parse_stamp(fields: &[u8]) -> Stamped
+fn parse_stamp(fields: &[u8]) -> Option<Stamp>
     ensures { result ≡ stamp_of fields.now }
 {
-    let Number::Of(now) = parse_number(first(fields), MOST) else {
-        return Stamped::Bad;
-    };
-    let tail = rest(fields);
-    let Source::Of(cid) = parse_source(first(tail)) else {
-        return Stamped::Bad;
-    };
-    Stamped::Of(Stamp { now, cid })
+    let now = parse_number(first(fields), u64::MAX)?;
+    let cid = parse_source(first(rest(fields)))?;
+    Some(Stamp { now, cid })
 }
 
 // The numbers of a data packet.
@@ -386,35 +344,18 @@ pub struct DataNumbers {
     pub options: u8,
 }
 
-#[derive(Clone, Copy)]
-pub enum Numbered {
-    Of(DataNumbers),
-    Bad,
-}
-
-fn parse_data_numbers(fields: &[u8]) -> Numbered
+fn parse_data_numbers(fields: &[u8]) -> Option<DataNumbers>
     ensures { result ≡ numbers_of fields.now }
 {
-    let Small::Of(universe) = parse_small(first(fields)) else {
-        return Numbered::Bad;
-    };
+    let universe = parse_small(first(fields))?;
     let second = rest(fields);
-    let Small::Of(address) = parse_small(first(second)) else {
-        return Numbered::Bad;
-    };
+    let address = parse_small(first(second))?;
     let third = rest(second);
-    let Octet::Of(priority) = parse_octet(first(third)) else {
-        return Numbered::Bad;
-    };
+    let priority = parse_octet(first(third))?;
     let fourth = rest(third);
-    let Octet::Of(sequence) = parse_octet(first(fourth)) else {
-        return Numbered::Bad;
-    };
-    let fifth = rest(fourth);
-    let Octet::Of(options) = parse_options(first(fifth)) else {
-        return Numbered::Bad;
-    };
-    Numbered::Of(DataNumbers {
+    let sequence = parse_octet(first(fourth))?;
+    let options = parse_options(first(rest(fourth)))?;
+    Some(DataNumbers {
         universe,
         address,
         priority,
@@ -427,7 +368,7 @@ fn data_packet(cid: Cid, n: DataNumbers) -> DataPacket
     ensures { result ≡ data_packet cid n }
 {
     DataPacket {
-        cid: cid,
+        cid,
         universe: n.universe,
         address: n.address,
         priority: n.priority,
@@ -442,186 +383,133 @@ fn data_packet(cid: Cid, n: DataNumbers) -> DataPacket
 fn past_five(fields: &[u8]) -> &[u8]
     ensures { result.now ≡ past_five fields.now }
 {
-    let second = rest(fields);
-    let third = rest(second);
-    let fourth = rest(third);
-    let fifth = rest(fourth);
-    rest(fifth)
+    rest(rest(rest(rest(rest(fields)))))
 }
 
-fn parse_data(fields: &[u8], bytes: &mut [u8]) -> Command
+fn parse_data(fields: &[u8], bytes: &mut [u8]) -> Option<Command>
     ensures { (us : List ℕ) → Reads (data_of (length «bytes».old) fields.now) result «bytes».new
         us }
 {
-    let Stamped::Of(stamp) = parse_stamp(fields) else {
-        return Command::Error;
-    };
-    let second = rest(fields);
-    let third = rest(second);
-    let Numbered::Of(numbers) = parse_data_numbers(third) else {
-        return Command::Error;
-    };
-    let last = past_five(third);
-    let Count::Of(count) = parse_byte_string(last, bytes) else {
-        return Command::Error;
-    };
-    let cid = stamp.cid;
-    let packet = data_packet(cid, numbers);
-    Command::Data(DataLine {
+    let stamp = parse_stamp(fields)?;
+    let third = rest(rest(fields));
+    let numbers = parse_data_numbers(third)?;
+    let count = parse_byte_string(past_five(third), bytes)?;
+    Some(Command::Data(DataLine {
         now: stamp.now,
-        packet: packet,
-        count: count,
-    })
+        packet: data_packet(stamp.cid, numbers),
+        count,
+    }))
 }
 
-fn parse_sync(fields: &[u8]) -> Command
+fn parse_sync(fields: &[u8]) -> Option<Command>
     ensures { result ≡ sync_of fields.now }
 {
-    let Stamped::Of(stamp) = parse_stamp(fields) else {
-        return Command::Error;
-    };
-    let second = rest(fields);
-    let third = rest(second);
-    let Small::Of(address) = parse_small(first(third)) else {
-        return Command::Error;
-    };
-    let fourth = rest(third);
-    let Octet::Of(sequence) = parse_octet(fourth) else {
-        return Command::Error;
-    };
-    let cid = stamp.cid;
-    let packet = SyncPacket {
-        cid: cid,
-        address: address,
-        sequence: SyncSequence(sequence),
-    };
-    Command::Sync(SyncLine {
+    let stamp = parse_stamp(fields)?;
+    let third = rest(rest(fields));
+    let address = parse_small(first(third))?;
+    let sequence = parse_octet(rest(third))?;
+    Some(Command::Sync(SyncLine {
         now: stamp.now,
-        packet: packet,
-    })
+        packet: SyncPacket {
+            cid: stamp.cid,
+            address,
+            sequence: SyncSequence(sequence),
+        },
+    }))
 }
 
-fn parse_discovery(fields: &[u8], bytes: &mut [u8], list: &mut [u16]) -> Command
+fn parse_discovery(fields: &[u8], bytes: &mut [u8], list: &mut [u16]) -> Option<Command>
     ensures { Reads (discovery_of (length «bytes».old) (length list.old) fields.now) result
         «bytes».new list.new }
 {
-    let Stamped::Of(stamp) = parse_stamp(fields) else {
-        return Command::Error;
-    };
-    let second = rest(fields);
-    let third = rest(second);
-    let Octet::Of(page) = parse_octet(first(third)) else {
-        return Command::Error;
-    };
+    let stamp = parse_stamp(fields)?;
+    let third = rest(rest(fields));
+    let page = parse_octet(first(third))?;
     let fourth = rest(third);
-    let Octet::Of(last_page) = parse_octet(first(fourth)) else {
-        return Command::Error;
-    };
+    let last_page = parse_octet(first(fourth))?;
     let fifth = rest(fourth);
-    let Count::Of(name) = parse_byte_string(first(fifth), bytes) else {
-        return Command::Error;
-    };
-    let last = rest(fifth);
-    let Count::Of(count) = parse_list(last, list) else {
-        return Command::Error;
-    };
-    let cid = stamp.cid;
-    let packet = DiscoveryPacket {
-        cid: cid,
-        page: page,
-        last_page: last_page,
-    };
-    Command::Discovery(PageLine {
+    let name = parse_byte_string(first(fifth), bytes)?;
+    let count = parse_list(rest(fifth), list)?;
+    Some(Command::Discovery(PageLine {
         now: stamp.now,
-        packet: packet,
-        name: name,
-        count: count,
-    })
+        packet: DiscoveryPacket {
+            cid: stamp.cid,
+            page,
+            last_page,
+        },
+        name,
+        count,
+    }))
 }
 
-fn parse_setting(word: SettingWord, field: &[u8]) -> Command
+fn parse_setting(word: SettingWord, field: &[u8]) -> Option<Command>
     ensures { result ≡ setting_of word field.now }
 {
-    let Flag::Of(on) = parse_flag(field) else {
-        return Command::Error;
-    };
-    match word {
-        SettingWord::Preview => Command::Set(Setting::Preview(on)),
-        SettingWord::Discovery => Command::Set(Setting::AnnounceDiscovery(on)),
-        SettingWord::Termination => Command::Set(Setting::AnnounceTermination(on)),
-        SettingWord::Timeout => Command::Set(Setting::AnnounceTimeout(on)),
-    }
+    let on = parse_flag(field)?;
+    Some(Command::Set(match word {
+        SettingWord::Preview => Setting::Preview(on),
+        SettingWord::Discovery => Setting::AnnounceDiscovery(on),
+        SettingWord::Termination => Setting::AnnounceTermination(on),
+        SettingWord::Timeout => Setting::AnnounceTimeout(on),
+    }))
 }
 
-fn parse_universe(word: UniverseWord, field: &[u8]) -> Command
+fn parse_universe(word: UniverseWord, field: &[u8]) -> Option<Command>
     ensures { result ≡ universe_of word field.now }
 {
-    let Small::Of(universe) = parse_small(field) else {
-        return Command::Error;
-    };
-    match word {
+    let universe = parse_small(field)?;
+    Some(match word {
         UniverseWord::Mute => Command::Mute(universe),
         UniverseWord::Listening => Command::Listening(universe),
         UniverseWord::Clear => Command::Clear(universe),
-    }
+    })
 }
 
-fn parse_reading(word: ReadingWord, field: &[u8]) -> Command
+fn parse_reading(word: ReadingWord, field: &[u8]) -> Option<Command>
     ensures { result ≡ reading_of word field.now }
 {
-    let Number::Of(now) = parse_number(field, MOST) else {
-        return Command::Error;
-    };
-    match word {
+    let now = parse_number(field, u64::MAX)?;
+    Some(match word {
         ReadingWord::Poll => Command::Poll(now),
         ReadingWord::Sweep => Command::Sweep(now),
-    }
+    })
 }
 
-fn parse_listen(field: &[u8], list: &mut [u16]) -> Command
+fn parse_listen(field: &[u8], list: &mut [u16]) -> Option<Command>
     ensures { (bs : List ℕ) → Reads (listen_of (length list.old) field.now) result bs list.new }
 {
-    let Count::Of(n) = parse_list(field, list) else {
-        return Command::Error;
-    };
-    Command::Listen(n)
+    Some(Command::Listen(parse_list(field, list)?))
 }
 
 // A line of one word.
-fn parse_lone(word: &[u8]) -> Command
+fn parse_lone(word: &[u8]) -> Option<Command>
     ensures { result ≡ lone_of word.now }
 {
-    if is_same(word, b"fresh") {
-        return Command::Fresh;
+    if word == b"fresh".as_slice() {
+        Some(Command::Fresh)
+    } else if word == b"clear_all".as_slice() {
+        Some(Command::ClearAll)
+    } else if word == b"reset".as_slice() {
+        Some(Command::Reset(Reset::Sources))
+    } else if word == b"reset_pairs".as_slice() {
+        Some(Command::Reset(Reset::Pairs))
+    } else if word == b"reset_discovery".as_slice() {
+        Some(Command::Reset(Reset::Discovery))
+    } else if word == b"dump".as_slice() {
+        Some(Command::Dump)
+    } else if word == b"settings".as_slice() {
+        Some(Command::Settings(SettingsLine::Show))
+    } else {
+        None
     }
-    if is_same(word, b"clear_all") {
-        return Command::ClearAll;
-    }
-    if is_same(word, b"reset") {
-        return Command::Reset(Reset::Sources);
-    }
-    if is_same(word, b"reset_pairs") {
-        return Command::Reset(Reset::Pairs);
-    }
-    if is_same(word, b"reset_discovery") {
-        return Command::Reset(Reset::Discovery);
-    }
-    if is_same(word, b"dump") {
-        return Command::Dump;
-    }
-    if is_same(word, b"settings") {
-        return Command::Settings(SettingsLine::Show);
-    }
-    Command::Error
 }
 
 // A word with what stands behind its space.
-fn parse_fields(word: Word, fields: &[u8], bytes: &mut [u8], list: &mut [u16]) -> Command
+fn parse_fields(word: Word, fields: &[u8], bytes: &mut [u8], list: &mut [u16]) -> Option<Command>
     ensures { Reads (fields_of (length «bytes».old) (length list.old) word fields.now) result
         «bytes».new list.new }
 {
     match word {
-        Word::Unknown => Command::Error,
         Word::Data => parse_data(fields, bytes),
         Word::Sync => parse_sync(fields),
         Word::Discovery => parse_discovery(fields, bytes, list),
@@ -636,14 +524,13 @@ fn parse_fields(word: Word, fields: &[u8], bytes: &mut [u8], list: &mut [u16]) -
     }
 }
 
-pub fn parse_line(line: &[u8], bytes: &mut [u8], list: &mut [u16]) -> Command
+pub fn parse_line(line: &[u8], bytes: &mut [u8], list: &mut [u16]) -> Option<Command>
     ensures { Reads (line_of (length «bytes».old) (length list.old) line.now) result
         «bytes».new list.new }
 {
-    let e = field_end(line, 32);
-    if e < line.len() {
-        let word = parse_word(first(line));
-        return parse_fields(word, rest(line), bytes, list);
+    if line.len() <= field_end(line, b' ') {
+        return parse_lone(line);
     }
-    parse_lone(line)
+    let word = parse_word(first(line))?;
+    parse_fields(word, rest(line), bytes, list)
 }

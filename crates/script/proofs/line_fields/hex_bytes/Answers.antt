@@ -1,61 +1,46 @@
--- What the digits that are left make of the bytes laid so far stays what all make of none.
+-- Two digits more.
 -- Assumes nothing.
-use mathlib.Core.Path.{sym, ap, ◌∙◌}
-use mathlib.Core.List.{List}
-use mathlib.Core.Option.{some}
-use Prim.Native.Nat.{ℕ, ◌+◌}
-use native.Mathlib.Omega.{arith}
-use lib.ListN.{length, take, drop, get_or, length-set}
-use Rattle.script.specs.declared.line_fields.Octet.{Octet}
-use Rattle.script.specs.Fields.{paired, added, hex_of, two_digits, lowered}
-use Rattle.script.specs.FieldLaws.{paired_none, paired_next, paired_odd, paired_ends, hex_room, decoded_front, decoded_bad, front_more}
+use Rattle.std.proofs.Common.{◌≡◌, sym, ap, subst, ◌∙◌, arith, ◌+◌, ◌*◌, ◌/◌, ℕ, List, length, length-set, take, drop, Some}
+use Rattle.script.specs.Fields.{paired, hex_of, Decoded}
+use Rattle.script.specs.FieldLaws.{paired_none, paired_turn, paired_ends, hex_room, hex_short, hex_odd, decoded_front, decoded_bad, front_more}
+use Rattle.script.proofs.line_fields.hex_bytes.Goals.{then-out-count-via-then-out-count, then-out-count-via-else-out-count+then-field-ne0}
 use Rattle.script.proofs.line_fields.hex_bytes.Goals as goal
 
-pub returns-in_default : goal.returns-in_default
-returns-in_default c =
-    let h = c in
-    let v = h.args in
-    let s = v.field.now in
-    let l = h.loop-i in
-    let e = paired_next v.capitals s l.i (take l.n l.out) (omega arith) in
-    let a = c.lower-high in
-    let d = c.lower-low in
-    let f = c.two_digits.ensures ∙ ap (λ (x : ℕ). two_digits x d.result) a.ensures ∙ ap (λ (x : ℕ). two_digits (lowered v.capitals (get_or s l.i 0)) x) d.ensures in
-    let g = c.in_default.is in
-    let k = ap (λ (o : Octet). paired v.capitals (added (some (take l.n l.out)) o) (drop (l.i + 2) s)) (sym g ∙ f) in
-    decoded_bad (hex_of v.capitals (length v.out.now) s) l.out
-    (hex_room v.capitals (length v.out.now) s h.if-out-field.false ∙ sym l.invariant.3 ∙ e ∙ sym k ∙ paired_none v.capitals (drop (l.i + 2) s))
+pub returns-then-out-count : goal.returns-then-out-count
+returns-then-out-count c =
+    let v = c.args in
+    decoded_bad (hex_of v.capitals (length v.out.now) v.field.now) v.out.now
+    (elim c.then-out-count.branch [
+      | then-out-count-via-then-out-count w ↦ hex_short v.capitals (length v.out.now) v.field.now w.if-out-count.true
+      | then-out-count-via-else-out-count+then-field-ne0 w ↦ hex_odd v.capitals (length v.out.now) v.field.now w.if-field-ne0.true
+    ])
 
-pub loop-i-preserved : goal.loop-i-preserved
-loop-i-preserved c =
-    let h = c in
-    let v = h.args in
+pub returns-in_err-out : goal.returns-in_err-out
+returns-in_err-out c =
+    let v = c.args in
     let s = v.field.now in
-    let l = h.loop-i in
-    let e = paired_next v.capitals s l.i (take l.n l.out) (omega arith) in
-    let a = c.lower-high in
-    let d = c.lower-low in
-    let f = c.two_digits.ensures ∙ ap (λ (x : ℕ). two_digits x d.result) a.ensures ∙ ap (λ (x : ℕ). two_digits (lowered v.capitals (get_or s l.i 0)) x) d.ensures in
-    let g = c.in-Of.is in
-    let b = c.in-Of.b in
-    let k = ap (λ (o : Octet). paired v.capitals (added (some (take l.n l.out)) o) (drop (l.i + 2) s)) (sym g ∙ f) in
-    let m = front_more l.out l.n b (omega arith) in
-    (omega arith, omega arith, simp length-set l.invariant.2, ap (λ (t : List ℕ). paired v.capitals (some t) (drop (l.i + 2) s)) m ∙ k ∙ sym e ∙ l.invariant.3)
+    let l = c.loop-n in
+    let e = paired_turn v.capitals s l.n (take l.n l.out) (omega arith) (sym c.in_err-out.was ∙ c.two_digits.ensures) c.lower-high.ensures c.lower-low.ensures in
+    rw c.from_residual.ensures
+    (decoded_bad (hex_of v.capitals (length v.out.now) s) l.out
+    (hex_room v.capitals (length v.out.now) s c.if-out-count.false ∙ sym l.invariant.1 ∙ e ∙ paired_none v.capitals (drop (2 * (l.n + 1)) s)))
 
-pub returns-then-i-field : goal.returns-then-i-field
-returns-then-i-field c =
-    let h = c in
-    let v = h.args in
+pub loop-n-preserved : goal.loop-n-preserved
+loop-n-preserved c =
+    let v = c.args in
     let s = v.field.now in
-    let l = h.loop-i in
-    decoded_bad (hex_of v.capitals (length v.out.now) s) l.out
-    (hex_room v.capitals (length v.out.now) s h.if-out-field.false ∙ sym l.invariant.3 ∙ paired_odd v.capitals s l.i (take l.n l.out) c.if-i-field.true c.loop-i-test.false)
+    let l = c.loop-n in
+    let e = paired_turn v.capitals s l.n (take l.n l.out) (omega arith) (sym c.in_ok-out.was ∙ c.two_digits.ensures) c.lower-high.ensures c.lower-low.ensures in
+    let m = front_more l.out l.n c.in_ok-out.field-0 (omega arith) in
+    (simp length-set l.invariant.0, ap (λ (t : List ℕ). paired v.capitals (Some t) (drop (2 * (l.n + 1)) s)) m ∙ sym e ∙ l.invariant.1)
 
 pub returns : goal.returns
 returns c =
-    let h = c in
-    let v = h.args in
+    let v = c.args in
     let s = v.field.now in
-    let l = h.loop-i in
-    decoded_front (hex_of v.capitals (length v.out.now) s) l.n l.out (omega arith)
-    (hex_room v.capitals (length v.out.now) s h.if-out-field.false ∙ sym l.invariant.3 ∙ paired_ends v.capitals s l.i (some (take l.n l.out)) c.if-i-field.false)
+    let l = c.loop-n in
+    let n : l.n ≡ length s / 2 = omega arith in
+    let p = paired_ends v.capitals s (2 * l.n) (Some (take l.n l.out)) (omega arith) in
+    subst (λ (k : ℕ). Decoded (hex_of v.capitals (length v.out.now) s) (Some k) l.out) n
+    (decoded_front (hex_of v.capitals (length v.out.now) s) l.n l.out (omega arith)
+    (hex_room v.capitals (length v.out.now) s c.if-out-count.false ∙ sym l.invariant.1 ∙ p))

@@ -1,35 +1,27 @@
--- What the bytes that are left make of the value stays what all make of 0.
+-- One digit more.
 -- Assumes nothing.
-use mathlib.Core.Path.{sym, ap, ◌∙◌}
-use Prim.Native.Nat.{◌+◌}
-use native.Mathlib.Omega.{arith}
-use lib.ListN.{drop}
-use Rattle.script.specs.declared.line_fields.Number.{Number}
-use Rattle.script.specs.declared.line_fields.Number.TheVariants as answer
+use Rattle.std.proofs.Common.{sym, ap, ◌∙◌, arith, ◌+◌, ℕ, Option, Some, drop}
 use Rattle.script.specs.Fields.{spelt}
 use Rattle.script.specs.FieldLaws.{spelt_bad, spelt_next, spelt_ends}
 use Rattle.script.proofs.line_fields.parse_number.Goals as goal
 
-pub returns-in_default : goal.returns-in_default
-returns-in_default c =
-    let h = c in
-    let v = h.args in
-    let e = spelt_next v.most v.field.now h.loop-i.i h.loop-i.value (omega arith) in
-    let f = c.with_digit.ensures in
-    let g = c.in_default.is in
-    sym (spelt_bad v.most (drop (h.loop-i.i + 1) v.field.now)) ∙ ap (λ (n : Number). spelt v.most n (drop (h.loop-i.i + 1) v.field.now)) (sym g ∙ f) ∙ sym e ∙ h.loop-i.invariant.1
+pub returns-in_err-value : goal.returns-in_err-value
+returns-in_err-value c =
+    let v = c.args in
+    let l = c.loop-digit in
+    let e = spelt_next v.most v.field.now l.digit-index l.value (omega arith) in
+    rw c.from_residual.ensures
+    (sym (spelt_bad v.most (drop (l.digit-index + 1) v.field.now)) ∙ ap (λ (n : Option ℕ). spelt v.most n (drop (l.digit-index + 1) v.field.now)) (sym c.in_err-value.was ∙ c.with_digit.ensures) ∙ sym e ∙ l.invariant)
 
-pub loop-i-preserved : goal.loop-i-preserved
-loop-i-preserved c =
-    let h = c in
-    let v = h.args in
-    let e = spelt_next v.most v.field.now h.loop-i.i h.loop-i.value (omega arith) in
-    let f = c.with_digit.ensures in
-    let g = c.in-Of.is in
-    (omega arith, ap (λ (n : Number). spelt v.most n (drop (h.loop-i.i + 1) v.field.now)) (sym g ∙ f) ∙ sym e ∙ h.loop-i.invariant.1)
+pub loop-digit-preserved : goal.loop-digit-preserved
+loop-digit-preserved c =
+    let v = c.args in
+    let l = c.loop-digit in
+    let e = spelt_next v.most v.field.now l.digit-index l.value (omega arith) in
+    ap (λ (n : Option ℕ). spelt v.most n (drop (l.digit-index + 1) v.field.now)) (sym c.in_ok-value.was ∙ c.with_digit.ensures) ∙ sym e ∙ l.invariant
 
 pub returns : goal.returns
 returns c =
-    let h = c in
-    let v = h.args in
-    sym (spelt_ends v.most v.field.now h.loop-i.i (answer.Of h.loop-i.value) (omega arith)) ∙ h.loop-i.invariant.1
+    let v = c.args in
+    let l = c.loop-digit in
+    sym (spelt_ends v.most v.field.now l.digit-index (Some l.value) (omega arith)) ∙ l.invariant

@@ -1,13 +1,8 @@
 -- A number within the limit fits.
 -- Assumes nothing.
-use mathlib.Core.Path.{sym, subst, ◌∙◌}
-use Prim.Native.Nat.{◌≤◌}
-use native.Mathlib.Omega.{arith}
-use Rattle.script.specs.FieldLaws.{Within, number_limit}
+use Rattle.std.proofs.Common.{arith}
+use Rattle.script.specs.FieldLaws.{narrowed}
 use Rattle.script.proofs.line_fields.parse_octet.Goals as goal
 
-pub overflow_cast-result : goal.overflow_cast-result
-overflow_cast-result c =
-    let p = c.parse_number in
-    let h : c.in-Of.n ≤ 255 = subst (Within 255) (sym p.ensures ∙ c.in-Of.is) (number_limit 255 c.args.field.now) in
-    omega arith
+pub returns : goal.returns
+returns c = narrowed c.try_from.result 255 256 c.in_ok-parse_number.field-0 c.args.field.now c.parse_number.ensures c.in_ok-parse_number.was (omega arith) c.try_from.ensures c.ok.ensures.value

@@ -1,37 +1,22 @@
 -- Field after field.
 -- Assumes nothing.
-use mathlib.Core.Path.{refl, sym, ap, ◌∙◌}
-use Rattle.script.specs.ScriptLaws.{field}
-use Rattle.script.specs.declared.line_fields.Number.{Number}
-use Rattle.script.specs.declared.line_fields.Source.{Source}
 use Rattle.script.specs.Fields.{number_of, source_of}
-use Rattle.script.specs.Script.{most, rest_of, stamp_of, stamp_now, stamp_cid}
+use Rattle.script.specs.Script.{most, stamp_of}
+use Rattle.script.specs.ScriptLaws.{field, front}
 use Rattle.script.proofs.parse.parse_stamp.Goals as goal
 
-pub returns-in_default : goal.returns-in_default
+pub returns-in_err-now : goal.returns-in_err-now
 unfolding stamp_of
-returns-in_default c =
-    let s = c.args.fields.now in
-    let e1 = field (number_of most) c.first.ensures refl c.parse_number.ensures c.in_default.is in
-    sym (ap (λ (x : Number). stamp_now x (rest_of s)) e1)
+returns-in_err-now c = rw (c.from_residual.ensures, front c.args.fields.now (number_of most) c.first.ensures c.parse_number.ensures c.in_err-now.was)
 
-pub returns-in_default-parse_source : goal.returns-in_default-parse_source
+pub returns-in_err-cid : goal.returns-in_err-cid
 unfolding stamp_of
-returns-in_default-parse_source c =
-    let s = c.args.fields.now in
-    let t2 = c.rest-tail.ensures in
-    let v1 = c.in-Of.now in
-    let e1 = field (number_of most) c.first.ensures refl c.parse_number.ensures c.in-Of.is in
-    let e2 = field source_of c.first-2.ensures t2 c.parse_source.ensures c.in_default-parse_source.is in
-    sym (ap (λ (x : Number). stamp_now x (rest_of s)) e1 ∙ ap (λ (x : Source). stamp_cid v1 x) e2)
+returns-in_err-cid c =
+    let n = front c.args.fields.now (number_of most) c.first.ensures c.parse_number.ensures c.in_ok-now.was in
+    rw (c.from_residual-in_err-cid.ensures, n, field source_of c.first-2.ensures c.rest.ensures c.parse_source.ensures c.in_err-cid.was)
 
 pub returns : goal.returns
 unfolding stamp_of
 returns c =
-    let s = c.args.fields.now in
-    let t2 = c.rest-tail.ensures in
-    let v1 = c.in-Of.now in
-    let e1 = field (number_of most) c.first.ensures refl c.parse_number.ensures c.in-Of.is in
-    let v2 = c.in-Of-parse_source.cid in
-    let e2 = field source_of c.first-2.ensures t2 c.parse_source.ensures c.in-Of-parse_source.is in
-    sym (ap (λ (x : Number). stamp_now x (rest_of s)) e1 ∙ ap (λ (x : Source). stamp_cid v1 x) e2)
+    let n = front c.args.fields.now (number_of most) c.first.ensures c.parse_number.ensures c.in_ok-now.was in
+    rw (n, field source_of c.first-2.ensures c.rest.ensures c.parse_source.ensures c.in_ok-cid.was)

@@ -1,57 +1,36 @@
 -- Field after field.
 -- Assumes nothing.
-use mathlib.Core.Path.{refl, sym, ap, ◌∙◌}
-use Rattle.script.specs.ScriptLaws.{field, whole}
-use Rattle.script.specs.declared.line_fields.Small.{Small}
-use Rattle.script.specs.declared.line_fields.Octet.{Octet}
-use Rattle.script.specs.declared.parse.Stamped.{Stamped}
+use Rattle.std.proofs.Common.{sym, ap, ◌∙◌}
 use Rattle.script.specs.Fields.{small_of, octet_of}
-use Rattle.script.specs.Script.{rest_of, stamp_of, sync_of, sync_stamp, sync_address, sync_sequence}
+use Rattle.script.specs.Script.{rest_of, sync_of}
+use Rattle.script.specs.ScriptLaws.{field, whole}
 use Rattle.script.proofs.parse.parse_sync.Goals as goal
 
-pub returns-in_default : goal.returns-in_default
+pub returns-in_err-stamp : goal.returns-in_err-stamp
 unfolding sync_of
-returns-in_default c =
-    let s = c.args.fields.now in
-    let e1 = whole stamp_of refl c.parse_stamp.ensures c.in_default.is in
-    sym (ap (λ (x : Stamped). sync_stamp x (rest_of (rest_of s))) e1)
+returns-in_err-stamp c =
+    rw (c.from_residual.ensures, sym c.parse_stamp.ensures ∙ c.in_err-stamp.was)
 
-pub returns-in_default-parse_small : goal.returns-in_default-parse_small
+pub returns-in_err-address : goal.returns-in_err-address
 unfolding sync_of
-returns-in_default-parse_small c =
-    let s = c.args.fields.now in
-    let t2 = c.rest-second.ensures in
-    let t3 = c.rest-third.ensures ∙ ap rest_of t2 in
-    let v1 = c.in-Of.stamp in
-    let e1 = whole stamp_of refl c.parse_stamp.ensures c.in-Of.is in
-    let e2 = field small_of c.first.ensures t3 c.parse_small.ensures c.in_default-parse_small.is in
-    sym (ap (λ (x : Stamped). sync_stamp x (rest_of (rest_of s))) e1 ∙ ap (λ (x : Small). sync_address v1 x (rest_of (rest_of (rest_of s)))) e2)
+returns-in_err-address c =
+    let t = sym c.parse_stamp.ensures ∙ c.in_ok-stamp.was in
+    let t3 = c.rest-third.ensures ∙ ap rest_of c.rest.ensures in
+    rw (c.from_residual-in_err-address.ensures, t, field small_of c.first.ensures t3 c.parse_small.ensures c.in_err-address.was)
 
-pub returns-in_default-parse_octet : goal.returns-in_default-parse_octet
+pub returns-in_err-sequence : goal.returns-in_err-sequence
 unfolding sync_of
-returns-in_default-parse_octet c =
-    let s = c.args.fields.now in
-    let t2 = c.rest-second.ensures in
-    let t3 = c.rest-third.ensures ∙ ap rest_of t2 in
-    let t4 = c.rest-fourth.ensures ∙ ap rest_of t3 in
-    let v1 = c.in-Of.stamp in
-    let e1 = whole stamp_of refl c.parse_stamp.ensures c.in-Of.is in
-    let v2 = c.in-Of-parse_small.address in
-    let e2 = field small_of c.first.ensures t3 c.parse_small.ensures c.in-Of-parse_small.is in
-    let e3 = whole octet_of t4 c.parse_octet.ensures c.in_default-parse_octet.is in
-    sym (ap (λ (x : Stamped). sync_stamp x (rest_of (rest_of s))) e1 ∙ ap (λ (x : Small). sync_address v1 x (rest_of (rest_of (rest_of s)))) e2 ∙ ap (λ (x : Octet). sync_sequence v1 v2 x) e3)
+returns-in_err-sequence c =
+    let t = sym c.parse_stamp.ensures ∙ c.in_ok-stamp.was in
+    let t3 = c.rest-third.ensures ∙ ap rest_of c.rest.ensures in
+    let a = field small_of c.first.ensures t3 c.parse_small.ensures c.in_ok-address.was in
+    rw (c.from_residual-in_err-sequence.ensures, t, a, whole octet_of (c.rest-2.ensures ∙ ap rest_of t3) c.parse_octet.ensures c.in_err-sequence.was)
 
 pub returns : goal.returns
 unfolding sync_of
 returns c =
-    let s = c.args.fields.now in
-    let t2 = c.rest-second.ensures in
-    let t3 = c.rest-third.ensures ∙ ap rest_of t2 in
-    let t4 = c.rest-fourth.ensures ∙ ap rest_of t3 in
-    let v1 = c.in-Of.stamp in
-    let e1 = whole stamp_of refl c.parse_stamp.ensures c.in-Of.is in
-    let v2 = c.in-Of-parse_small.address in
-    let e2 = field small_of c.first.ensures t3 c.parse_small.ensures c.in-Of-parse_small.is in
-    let v3 = c.in-Of-parse_octet.sequence in
-    let e3 = whole octet_of t4 c.parse_octet.ensures c.in-Of-parse_octet.is in
-    sym (ap (λ (x : Stamped). sync_stamp x (rest_of (rest_of s))) e1 ∙ ap (λ (x : Small). sync_address v1 x (rest_of (rest_of (rest_of s)))) e2 ∙ ap (λ (x : Octet). sync_sequence v1 v2 x) e3)
+    let t = sym c.parse_stamp.ensures ∙ c.in_ok-stamp.was in
+    let t3 = c.rest-third.ensures ∙ ap rest_of c.rest.ensures in
+    let a = field small_of c.first.ensures t3 c.parse_small.ensures c.in_ok-address.was in
+    let q = whole octet_of (c.rest-2.ensures ∙ ap rest_of t3) c.parse_octet.ensures c.in_ok-sequence.was in
+    rw (t, a, q)

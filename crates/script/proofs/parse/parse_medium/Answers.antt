@@ -1,0 +1,8 @@
+-- A number within the limit fits.
+-- Assumes nothing.
+use Rattle.std.proofs.Common.{arith}
+use Rattle.script.specs.FieldLaws.{narrowed}
+use Rattle.script.proofs.parse.parse_medium.Goals as goal
+
+pub returns : goal.returns
+returns c = narrowed c.try_from.result 4294967295 4294967296 c.in_ok-parse_number.field-0 c.args.field.now c.parse_number.ensures c.in_ok-parse_number.was (omega arith) c.try_from.ensures c.ok.ensures.value
