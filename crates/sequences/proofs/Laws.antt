@@ -7,8 +7,9 @@ use Rattle.laws.specs.Cases.{split, clash}
 use Rattle.rules.specs.declared.Cid.{Cid}
 use Rattle.pairs.specs.declared.Pair.{Pair}
 use Rattle.pairs.specs.declared.SweepAnswer.{SweepAnswer}
-use Rattle.pair_tables.specs.declared.DataTable.{DataTable}
-use Rattle.pair_tables.specs.declared.SyncTable.{SyncTable}
+use Rattle.rules.specs.declared.DataSequence.{DataSequence}
+use Rattle.rules.specs.declared.SyncSequence.{SyncSequence}
+use Rattle.pair_tables.specs.declared.TableOf.{TableOf}
 use Rattle.pairs.specs.declared.SweepAnswer.TheVariants.{Quiet, TimedOut}
 use Rattle.pairs.specs.Table.{Table, Key, key, pair_at, sweep, without, unknown}
 use Rattle.pairs.specs.Answers.{answer_of}
@@ -46,7 +47,7 @@ unfolding timeouts timeouts_data timeouts_sync
 timeouts_on announce now n e = ap (timeouts_data announce now n.sync_table) (λ i. ((sweep announce now n.data_table).0, e i))
 
 -- ── the calls ──
-module _ (n : SequenceNumbering) (m : Lent) (k : Kept n m) (announce : Bool) (now : ℕ) (d : DataTable) (dp ds : Rows) where
+module _ (n : SequenceNumbering) (m : Lent) (k : Kept n m) (announce : Bool) (now : ℕ) (d : TableOf DataSequence) (dp ds : Rows) where
   -- the data table gave number 4
   pub checks_data : (c : Cid) (u : ℕ) (a : SweepAnswer) → tables.Follows d.table dp ds a (tables.answered (sweep announce now (data_of n m))) → a ≡ TimedOut c u
       → Follows (record { «data» = d; sync = n.sync }) (lent dp ds m.sync_pairs m.sync_sources) (TimedOut c u) (answered (timeouts announce now (numbers_of n m)))
@@ -59,7 +60,7 @@ module _ (n : SequenceNumbering) (m : Lent) (k : Kept n m) (announce : Bool) (no
       }
 
   -- it gave nothing, and the synchronisation table was swept too
-  pub checks_both : (a b : SweepAnswer) (y : SyncTable) (sp ss : Rows) → tables.Follows d.table dp ds a (tables.answered (sweep announce now (data_of n m))) → a ≡ Quiet
+  pub checks_both : (a b : SweepAnswer) (y : TableOf SyncSequence) (sp ss : Rows) → tables.Follows d.table dp ds a (tables.answered (sweep announce now (data_of n m))) → a ≡ Quiet
       → tables.Follows y.table sp ss b (tables.answered (sweep announce now (sync_of n m)))
       → Follows (record { «data» = d; sync = y }) (lent dp ds sp ss) b (answered (timeouts announce now (numbers_of n m)))
   checks_both a b y sp ss f e g =
@@ -98,9 +99,9 @@ unknown_first : (j : Key) (x : Numbers) → not (unknown (pair_at j x.data_table
 unfolding removed
 unknown_first j x e = split (unknown (pair_at j x.data_table.pairs)) (λ h. rw h) (λ h. let z : true ≡ false = rw h at e in clash refl z)
 
-module _ (n : SequenceNumbering) (m : Lent) (k : Kept n m) (j : Key) (d : DataTable) (dp ds : Rows) (known : Bool)
+module _ (n : SequenceNumbering) (m : Lent) (k : Kept n m) (j : Key) (d : TableOf DataSequence) (dp ds : Rows) (known : Bool)
     (f : tables.Follows d.table dp ds known (removal j (data_of n m))) where
-  pub removes_both : (y : SyncTable) (sp ss : Rows) (b : Bool) → known ≡ true → tables.Follows y.table sp ss b (removal j (sync_of n m))
+  pub removes_both : (y : TableOf SyncSequence) (sp ss : Rows) (b : Bool) → known ≡ true → tables.Follows y.table sp ss b (removal j (sync_of n m))
       → (numbers_of (record { «data» = d; sync = y }) (lent dp ds sp ss) ≡ removed j (numbers_of n m)) × Kept (record { «data» = d; sync = y }) (lent dp ds sp ss)
   removes_both y sp ss b e g = (
     ap (λ (x : Table). numbers x (table_of y.table sp ss)) f.table_is ∙ ap (numbers (without j (data_of n m))) g.table_is ∙ sym (known_first j (numbers_of n m) (sym f.answer_is ∙ e)),

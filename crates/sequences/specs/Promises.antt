@@ -2,7 +2,7 @@
 -- Assumes nothing.
 use Rattle.std.specs.Borrow.{MutBor}
 use denote.Triple.Both.{Both}
-use Rattle.pair_tables.specs.Promises.{Part}
+use Rattle.laws.specs.Lent.{Part}
 use Rattle.pair_rows.specs.View.{Rows}
 use Rattle.sequences.specs.View.{Lent, lent}
 

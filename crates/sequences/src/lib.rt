@@ -2,12 +2,13 @@
 
 #![tactic(auto)]
 
-ghost use Rattle.std.specs.Prelude.{◌≡◌, ◌≤◌, length};
+ghost use Rattle.std.specs.Prelude.{◌≡◌};
 ghost use Rattle.pairs.specs.Table.{key};
 ghost use Rattle.sequences.specs.Sequences.{timeouts, removed};
 ghost use Rattle.sequences.specs.Promises.{sequence_rows_in, sequence_rows};
 ghost use Rattle.sequences.specs.View.{numbers_of, quiet, Kept, Follows, Unmoved, Emptied, answered};
 
+use laws::After;
 use pair_rows::{PairRows, SourceRows};
 use pair_tables::{DataTable, SyncTable};
 use pairs::SweepAnswer;
@@ -19,41 +20,30 @@ pub struct SequenceNumbering {
     pub sync: SyncTable,
 }
 
-#[derive(Clone, Copy)]
-pub struct TimeoutsChecked {
-    pub sequences: SequenceNumbering,
-    pub answer: SweepAnswer,
-}
-
 impl SequenceNumbering {
     pub fn new() -> SequenceNumbering
         ensures { Emptied result }
     {
-        let data = DataTable::new();
-        let sync = SyncTable::new();
-        SequenceNumbering { data, sync }
+        SequenceNumbering {
+            data: DataTable::new(),
+            sync: SyncTable::new(),
+        }
     }
 
     pub fn clear(self) -> SequenceNumbering
         ensures { Emptied result }
     {
-        let d = self.data;
-        let y = self.sync;
-        let data = d.clear();
-        let sync = y.clear();
-        SequenceNumbering { data, sync }
+        SequenceNumbering {
+            data: self.data.clear(),
+            sync: self.sync.clear(),
+        }
     }
 
     // By the notes of both tables, `check_timeouts` has nothing to do.
     pub fn is_quiet(self, announce: bool, reading: u64) -> bool
         ensures { result ≡ quiet announce reading self }
     {
-        let d = self.data;
-        let y = self.sync;
-        if d.is_quiet(announce, reading) {
-            return y.is_quiet(announce, reading);
-        }
-        false
+        self.data.is_quiet(announce, reading) && self.sync.is_quiet(announce, reading)
     }
 
     // The data table is swept, then the synchronisation table; number 4 ends it.
@@ -65,33 +55,32 @@ impl SequenceNumbering {
         sync_sources: &mut SourceRows,
         announce: bool,
         reading: u64,
-    ) -> TimeoutsChecked
+    ) -> After<SequenceNumbering, SweepAnswer>
         requires { Kept self (sequence_rows_in data_pairs data_sources sync_pairs sync_sources) }
         ensures view { let m = sequence_rows data_pairs data_sources sync_pairs sync_sources in
-            Follows result.sequences m.exit result.answer (answered (timeouts announce reading (numbers_of self m.entry))) }
+            Follows result.left m.exit result.answer (answered (timeouts announce reading (numbers_of self m.entry))) }
         ensures quiet { let m = sequence_rows data_pairs data_sources sync_pairs sync_sources in
             Unmoved self m.entry reading m.exit }
     {
-        let d = self.data;
-        let y = self.sync;
-        let a = d.sweep(&mut *data_pairs, &mut *data_sources, announce, reading);
-        let data = a.table;
-        let told = a.answer;
-        let SweepAnswer::TimedOut(cid, universe) = told else {
-            let b = y.sweep(&mut *sync_pairs, &mut *sync_sources, announce, reading);
-            let sync = b.table;
-            let answer = b.answer;
-            return TimeoutsChecked {
-                sequences: SequenceNumbering { data, sync },
-                answer: answer,
-            };
-        };
-        TimeoutsChecked {
-            sequences: SequenceNumbering {
-                data: data,
-                sync: y,
+        let data = self.data.sweep(data_pairs, data_sources, announce, reading);
+        match data.answer {
+            SweepAnswer::Quiet => {
+                let sync = self.sync.sweep(sync_pairs, sync_sources, announce, reading);
+                After {
+                    left: SequenceNumbering {
+                        data: data.left,
+                        sync: sync.left,
+                    },
+                    answer: sync.answer,
+                }
+            }
+            SweepAnswer::TimedOut(cid, universe) => After {
+                left: SequenceNumbering {
+                    data: data.left,
+                    ..self
+                },
+                answer: SweepAnswer::TimedOut(cid, universe),
             },
-            answer: SweepAnswer::TimedOut(cid, universe),
         }
     }
 
@@ -111,18 +100,18 @@ impl SequenceNumbering {
         ensures kept { let m = sequence_rows data_pairs data_sources sync_pairs sync_sources in
             Kept result m.exit }
     {
-        let d = self.data;
-        let y = self.sync;
-        let a = d.remove(&mut *data_pairs, &mut *data_sources, cid, universe);
-        let data = a.table;
-        if a.known {
-            let b = y.remove(&mut *sync_pairs, &mut *sync_sources, cid, universe);
-            let sync = b.table;
-            return SequenceNumbering { data, sync };
-        }
-        SequenceNumbering {
-            data: data,
-            sync: y,
+        let data = self.data.remove(data_pairs, data_sources, cid, universe);
+        if data.answer {
+            let sync = self.sync.remove(sync_pairs, sync_sources, cid, universe);
+            SequenceNumbering {
+                data: data.left,
+                sync: sync.left,
+            }
+        } else {
+            SequenceNumbering {
+                data: data.left,
+                ..self
+            }
         }
     }
 }

@@ -5,21 +5,21 @@ use Rattle.sequences.specs.View.{lent}
 use Rattle.sequences.proofs.Laws.{removes_both, removes_none}
 use Rattle.sequences.proofs.SequenceNumbering.remove_seq_numbers.Goals as goal
 
-pub returns-then-a-clause-view : goal.returns-then-a-clause-view
-returns-then-a-clause-view c =
+pub returns-then-data-clause-view : goal.returns-then-data-clause-view
+returns-then-data-clause-view c =
     let v = c.args in
     let r =
     removes_both v.self (lent v.data_pairs.now v.data_sources.now v.sync_pairs.now v.sync_sources.now) c.requires (key v.cid v.universe)
-    c.remove-a.result.table c.remove-a.new.pairs c.remove-a.new.sources c.remove-a.result.known c.remove-a.ensures
-    c.remove-b.result.table c.remove-b.new.pairs c.remove-b.new.sources c.remove-b.result.known
-    c.if-a.true c.remove-b.ensures in
+    c.remove-data.result.left c.remove-data.new.pairs c.remove-data.new.sources c.remove-data.result.answer c.remove-data.ensures
+    c.remove-sync.result.left c.remove-sync.new.pairs c.remove-sync.new.sources c.remove-sync.result.answer
+    c.if-data.true c.remove-sync.ensures in
     r.0
 
-pub returns-clause-view : goal.returns-clause-view
-returns-clause-view c =
+pub returns-else-data-clause-view : goal.returns-else-data-clause-view
+returns-else-data-clause-view c =
     let v = c.args in
     let r =
     removes_none v.self (lent v.data_pairs.now v.data_sources.now v.sync_pairs.now v.sync_sources.now) c.requires (key v.cid v.universe)
-    c.remove-a.result.table c.remove-a.new.pairs c.remove-a.new.sources c.remove-a.result.known c.remove-a.ensures
-    c.if-a.false in
+    c.remove-data.result.left c.remove-data.new.pairs c.remove-data.new.sources c.remove-data.result.answer c.remove-data.ensures
+    c.if-data.false in
     r.0
