@@ -54,33 +54,28 @@ pub extern "C" fn bench_check_seq_number(
     ensures { Leaves (table_from result) pairs sources result.number
         (numbered (check Unlimited false (arriving (record { hi = hi; lo = lo }) universe sequence reading) (table_before (table_from header) pairs sources))) }
 {
-    let table = PairTable {
+    let table = DataTable::of(PairTable {
         count: header.count,
         source_count: header.source_count,
         oldest: header.oldest,
         tidy: header.tidy,
-    };
-    let cid = Cid { hi, lo };
-    let data = DataTable { table };
-    let r = data.check_seq_number(
+    });
+    let arrival = table.check_seq_number(
         pairs,
         sources,
         SourceLimit::Unlimited,
         false,
-        cid,
+        Cid { hi, lo },
         universe,
         DataSequence(sequence),
         reading,
     );
-    let d = r.table;
-    let t = d.table;
-    let answer = r.answer;
-    let number = number_of(answer);
+    let left = arrival.left.table;
     Header {
-        count: t.count,
-        source_count: t.source_count,
-        oldest: t.oldest,
-        tidy: t.tidy,
-        number: number,
+        count: left.count,
+        source_count: left.source_count,
+        oldest: left.oldest,
+        tidy: left.tidy,
+        number: number_of(arrival.answer),
     }
 }
