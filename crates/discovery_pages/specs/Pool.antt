@@ -1,13 +1,14 @@
--- A part of the pool moved up or down at once, and the turns of a loop that keeps what passes a test.
+-- A part of the pool moved up or down at once, and the turns of loops: elements moved up from the end, and a pass that keeps what passes a test.
 -- Assumes nothing.
-use Rattle.std.specs.Prelude.{◌≡◌, Bool, true, false, cond, ℕ, ◌+◌, ◌-◌, ◌≤◌, ◌<◌, length, take, drop, get_or}
+use Rattle.std.specs.Prelude.{◌≡◌, Bool, true, false, cond, ℕ, ◌+◌, ◌-◌, ◌≤◌, ◌<◌, length, take, drop, get_or, set}
 use Rattle.std.specs.List.{copy_within}
 use Rattle.std.proofs.Math.Seq.{paste}
 use Rattle.std.proofs.lemmas.List.{take-append-le, drop-take}
-use Rattle.std.proofs.Common.{sym, ap, ◌∙◌, arith, add-one, drop_at, length-take-le, length-drop, take-take, take-suc, drop-drop, get_or-drop}
+use Rattle.std.proofs.Common.{sym, ap, ◌∙◌, arith, add-one, drop_at, length-take-le, length-drop, length-set, take-take, take-suc, drop-drop, get_or-drop, get_or-take, get_or-set_same}
 use mathlib.Core.List.{List, [], ◌∷◌, ◌++◌, append-nil}
 use Rattle.laws.specs.Cases.{split}
 use Rattle.laws.specs.Table.{keep}
+use Rattle.laws.specs.Arrays.{next, untouched}
 use Rattle.laws.specs.Parts.{pasted, paste_part, length_pasted, take_pasted, drop_pasted}
 
 module _ {A : Type 0} where
@@ -22,10 +23,30 @@ module _ {A : Type 0} where
   part_more b from i d h =
       rw (add-one, ← (get_or-drop from b i d)) (take-suc (drop from b) i d (omega (arith, length-drop from b)))
 
+  -- with less taken, lists still agree
+  pub take_less : (a b : List A) (i j : ℕ) → j ≤ i → take i a ≡ take i b → take j a ≡ take j b
+  take_less a b i j h e = sym (take-take j i a h) ∙ ap (take j) e ∙ take-take j i b h
+
   pub keep_more : (p : A → Bool) (l : List A) (x : A) → keep p (l ++ x ∷ []) ≡ keep p l ++ cond (p x) (x ∷ []) []
   unfolding keep
   keep_more p [] x = split (p x) (λ h. rw h) (λ h. rw h)
   keep_more p (y ∷ l) x = let r = keep_more p l x in split (p y) (λ h. rw h (ap (λ (t : List A). y ∷ t) r)) (λ h. rw h r)
+
+  -- one element moved up by n, those behind it moved already
+  pub moved_up : (a b : List A) (used n i : ℕ) (d : A) → i < used → used + n ≤ length a → used ≤ length b → take (i + 1) a ≡ take (i + 1) b
+      → drop (i + 1 + n) (take (used + n) a) ≡ drop (i + 1) (take used b)
+      → drop (i + n) (take (used + n) (set a (i + n) (get_or a i d))) ≡ drop i (take used b)
+  moved_up a b used n i d h l m e f =
+      let x : get_or a i d ≡ get_or b i d =
+      sym (get_or-take (i + 1) a i d (omega arith)) ∙ ap (λ (t : List A). get_or t i d) e ∙ get_or-take (i + 1) b i d (omega arith) in
+      let s = set a (i + n) (get_or a i d) in
+      let k : i + n < length s = omega (arith, length-set a (i + n) (get_or a i d)) in
+      let y : get_or s (i + n) d ≡ get_or a i d = get_or-set_same a (i + n) (get_or a i d) d (omega arith) in
+      let z : i + n + 1 ≡ i + 1 + n = omega arith in
+      next s (used + n) (i + n) d (omega arith) k
+      ∙ ap (λ (v : A). v ∷ drop (i + n + 1) (take (used + n) s)) (y ∙ x)
+      ∙ ap (λ (t : List A). get_or b i d ∷ t) (untouched a (used + n) (i + n) (i + n + 1) (get_or a i d) (omega arith) ∙ ap (λ (q : ℕ). drop q (take (used + n) a)) z ∙ f)
+      ∙ sym (next b used i d h (omega arith))
 
   -- a pass that keeps what passes the test: one more is kept, or passed over
   module _ (p : A → Bool) (b : List A) (from i : ℕ) (d : A) (h : from + i < length b) where
