@@ -2,7 +2,7 @@
 
 #![tactic(auto)]
 
-ghost use Rattle.std.specs.Prelude.{◌≡◌, List, ℕ, ◌≤◌, length, get_or};
+ghost use Rattle.std.specs.Prelude.{◌≡◌, List, ℕ, ◌≤◌, get_or};
 ghost use Rattle.merge.specs.Views.{dmx};
 ghost use Rattle.waiting.specs.Waiting.{capacity, cleared};
 ghost use Rattle.waiting_store.specs.Entries.{nothing, waiting_of, Kept};

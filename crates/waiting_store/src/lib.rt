@@ -3,17 +3,15 @@
 
 #![tactic(auto)]
 
-ghost use Rattle.std.specs.Prelude.{◌≡◌, ◌≢◌, not, ◌++◌, ◌+◌, ◌-◌, ◌≤◌, ◌<◌, eqb, length, take, drop, get_or, set};
+ghost use Rattle.std.specs.Prelude.{◌≡◌, not, ◌+◌, ◌-◌, ◌≤◌, ◌<◌, length, take, get_or, set};
 ghost use Rattle.std.specs.List.{prefix_len, list_any};
-ghost use Rattle.laws.specs.Table.{any, keep};
-ghost use Rattle.laws.specs.Place.{prefix, insert_at, remove_at};
-ghost use Rattle.laws.specs.Parts.{pasted};
+ghost use Rattle.laws.specs.Table.{keep};
+ghost use Rattle.laws.specs.Place.{insert_at, remove_at};
 ghost use Rattle.merge.specs.Merge.{Dmx, most_values};
 ghost use Rattle.merge.specs.Views.{dmx};
 ghost use Rattle.waiting.specs.Waiting.{capacity, released};
-ghost use Rattle.rules.specs.Bytes.{bit};
 ghost use Rattle.waiting.specs.Records.{most_bytes};
-ghost use Rattle.waiting_store.specs.Entries.{head_of, count_of, owner_of, entries, row_of, nothing, Room};
+ghost use Rattle.waiting_store.specs.Entries.{head_of, count_of, entries, nothing, Room};
 ghost use Rattle.waiting_store.specs.Posts.{Rowed, below, retained, Sought};
 ghost use Rattle.waiting_store.specs.Promises.{entries_before, Become, FirstBecome};
 ghost use Rattle.waiting_store.specs.Written.{due, Laid, Writing};
