@@ -15,6 +15,7 @@ use settings::Settings;
 use waiting_calls::Waiting;
 use waiting_store::EntryRows;
 
+// Two states and an answer: three names read plainer than an `After` of a pair.
 #[derive(Clone, Copy)]
 pub struct Polled {
     pub sequences: SequenceNumbering,
@@ -31,10 +32,7 @@ pub fn is_idle(
 ) -> bool
     ensures { result ≡ idle settings reading sequences waiting.count }
 {
-    if sequences.is_quiet(settings.announce_timeout, reading) {
-        return waiting.count == 0;
-    }
-    false
+    sequences.is_quiet(settings.announce_timeout, reading) && waiting.count == 0
 }
 
 // Both pair tables are swept, then the waiting data; number 4 ends it.
@@ -60,12 +58,12 @@ pub fn poll(
     if sequences.is_quiet(settings.announce_timeout, reading) {
         let left = waiting.check_waiting_data_timeouts(rows, store, reading);
         return Polled {
-            sequences: sequences,
+            sequences,
             waiting: left,
             answer: SweepAnswer::Quiet,
         };
     }
-    let t = sequences.check_timeouts(
+    let checked = sequences.check_timeouts(
         data_pairs,
         data_sources,
         sync_pairs,
@@ -73,19 +71,16 @@ pub fn poll(
         settings.announce_timeout,
         reading,
     );
-    let next = t.sequences;
-    let said = t.answer;
-    let SweepAnswer::TimedOut(cid, universe) = said else {
-        let w = waiting.check_waiting_data_timeouts(rows, store, reading);
-        return Polled {
-            sequences: next,
-            waiting: w,
+    match checked.answer {
+        SweepAnswer::Quiet => Polled {
+            sequences: checked.left,
+            waiting: waiting.check_waiting_data_timeouts(rows, store, reading),
             answer: SweepAnswer::Quiet,
-        };
-    };
-    Polled {
-        sequences: next,
-        waiting: waiting,
-        answer: SweepAnswer::TimedOut(cid, universe),
+        },
+        SweepAnswer::TimedOut(cid, universe) => Polled {
+            sequences: checked.left,
+            waiting,
+            answer: SweepAnswer::TimedOut(cid, universe),
+        },
     }
 }
