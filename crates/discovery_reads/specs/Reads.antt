@@ -1,6 +1,9 @@
 -- What is read out of the sources' rows: the k-th entry of a list that passes a test, where it stands, and how many there are.
 -- Assumes nothing.
 use Rattle.std.specs.Prelude.{◌≡◌, Bool, cond, eqb, drop, get_or}
+use denote.Param.Members.{Shared}
+use denote.Ref.{Bor}
+use Rattle.std.specs.Fn.{FnReturnsAt}
 use mathlib.Core.List.{List, [], ◌∷◌}
 use Prim.Native.Nat.{ℕ, zero, suc, ◌≤◌, ◌<◌}
 use Rattle.std.proofs.Math.ListN.{length, take}
@@ -18,6 +21,10 @@ unfoldable pub nth : {A : Type 0} → (A → Bool) → ℕ → List A → ℕ
 nth p k [] = 0
 nth p zero (x ∷ l) = cond (p x) 0 (suc (nth p zero l))
 nth p (suc k) (x ∷ l) = cond (p x) (suc (nth p k l)) (suc (nth p (suc k) l))
+
+-- a closure tells of each row whether it passes the test
+abbrev pub Tells : {F T : Type 0} (g : Shared F (Bor T × Unit {0}) Bool) → F → (T → Bool) → Type 0
+Tells {T = T} g f p = (row : T) (b : Bool) → FnReturnsAt g f row b → b ≡ p row
 
 -- ── the sources of a mark ──
 abbrev pub marked_row : ℕ → List ℕ → Bool

@@ -2,13 +2,13 @@
 
 #![tactic(auto)]
 
-ghost use Rattle.std.specs.Prelude.{◌≡◌, List, [], ℕ, ◌+◌, ◌≤◌, ◌<◌, min, length, take};
+ghost use Rattle.std.specs.Prelude.{◌≡◌, Bool, List, [], ℕ, ◌+◌, ◌≤◌, ◌<◌, min, length, take};
 ghost use Rattle.laws.specs.Table.{keep};
 ghost use Rattle.discovery.specs.Discovery.{capacity};
 ghost use Rattle.discovery_rows.specs.Store.{pages_at};
 ghost use Rattle.discovery_rows.specs.Rows.{owned, total};
 ghost use Rattle.discovery_calls.specs.View.{leaves_of, discovered_of};
-ghost use Rattle.discovery_reads.specs.Reads.{nth, marked_row, page_of_row, SourceAt, PageAt, HeadRead, PageRead};
+ghost use Rattle.discovery_reads.specs.Reads.{nth, Tells, marked_row, page_of_row, SourceAt, PageAt, HeadRead, PageRead};
 
 use discovery::PAGES;
 use discovery_calls::Discovery;
@@ -40,21 +40,29 @@ fn count_sources(sources: &HeadRows, count: usize, mark: u64) -> usize
         .count()
 }
 
-// Where the k-th source of the mark stands, from 0; count if there are not so many.
-fn nth_source(sources: &HeadRows, count: usize, mark: u64, k: usize) -> usize
-    requires { count ≤ capacity }
-    ensures { result ≡ nth (marked_row mark) k (take count sources.now) }
+// Where the k-th row that passes the test stands, from 0; how many rows there are if not so many pass.
+fn nth_row<T, F: Fn(&T) -> bool>(rows: &[T], k: usize, test: F) -> usize
+    requires { F.IsAlwaysCallable test }
+    ensures { (p : T → Bool) → Tells F.Fn test p → result ≡ nth p k rows.now }
 {
     let mut left = k;
-    for i in 0..count {
-        if is_marked(&sources[i], mark) {
+    for i in 0..rows.len() {
+        if test(&rows[i]) {
             if left == 0 {
                 return i;
             }
             left -= 1;
         }
     }
-    count
+    rows.len()
+}
+
+// Where the k-th source of the mark stands, from 0; count if there are not so many.
+fn nth_source(sources: &HeadRows, count: usize, mark: u64, k: usize) -> usize
+    requires { count ≤ capacity }
+    ensures { result ≡ nth (marked_row mark) k (take count sources.now) }
+{
+    nth_row(&sources[..count], k, |row| is_marked(row, mark))
 }
 
 // How many pages the owner has.
@@ -73,16 +81,7 @@ fn nth_page(pages: &PageRows, count: usize, mark: u64, cid: Cid, k: usize) -> us
     requires { count ≤ capacity }
     ensures { result ≡ nth (owned mark cid) k (take count pages.now) }
 {
-    let mut left = k;
-    for i in 0..count {
-        if is_owned(&pages[i], mark, cid) {
-            if left == 0 {
-                return i;
-            }
-            left -= 1;
-        }
-    }
-    count
+    nth_row(&pages[..count], k, |row| is_owned(row, mark, cid))
 }
 
 // How many sources are partial.
