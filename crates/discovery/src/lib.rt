@@ -13,7 +13,7 @@ pub const NAME: usize = 63;
 // The pool of universes, all pages full: `pool-length`, by the function `pool_length` of discovery_pages.
 pub const POOL: usize = PAGES * PAGE_UNIVERSES;
 
-// What a page's arrival answers.
+// What a page's arrival answers. This and the next are enums of their own and no Result, as document 01 gives each case its number and values.
 #[derive(Clone, Copy)]
 pub enum PageAnswer {
     // The page was taken; its source is not listed by it.

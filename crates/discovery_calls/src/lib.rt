@@ -44,7 +44,7 @@ pub struct Page<'a> {
 
 impl Discovery {
     // The source of this mark goes, with its pages. It stands nowhere before place from.
-    // A mark is a number, as it is a word of the lent rows.
+    // Its mark is a number, as it is a word of the lent rows.
     fn drop_source(
         self,
         sources: &mut HeadRows,
@@ -272,7 +272,7 @@ impl Discovery {
         }
     }
 
-    // A page arrives at this reading. Its answer is an enum of its own, as document 01 defines the number and the values of each case.
+    // A page arrives at this reading.
     pub fn page_arrives(
         self,
         sources: &mut HeadRows,

@@ -7,7 +7,7 @@ ghost use Rattle.discovery_rows.specs.Rows.{cid_at, owned, total, Few};
 use crate::PageRows;
 use rules::Cid;
 
-// The owner is this one.
+// The owner is this one. A mark is a number, since it is a word of the lent rows, which may hold any.
 pub fn is_owner(mark: u64, cid: Cid, kind: u64, source: Cid) -> bool
     ensures { result ≡ owner kind source mark cid }
 {

@@ -19,7 +19,7 @@ pub fn find_source(sources: &HeadRows, count: usize, mark: u64, cid: Cid) -> usi
     find_from(sources, count, 0, mark, cid)
 }
 
-// Where the first source with this CID stands, partial or listed; count if nowhere.
+// Where the first source with this CID stands, partial or listed; count if nowhere, so that the next search can begin there.
 pub fn find_cid(sources: &HeadRows, count: usize, cid: Cid) -> usize
     requires { count ≤ capacity }
     ensures { result ≡ prefix (λ row. not (same (cid_at row) cid)) (take count sources.now) }
