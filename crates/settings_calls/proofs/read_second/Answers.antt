@@ -10,8 +10,8 @@ returns-then-fields-lt11 c = sym (second_short c.args.fields.now (omega (arith, 
 
 pub returns-then-not-is_expiry_in_range : goal.returns-then-not-is_expiry_in_range
 returns-then-not-is_expiry_in_range c =
-    sym (second_out c.args.fields.now (omega (arith, c.if-fields-lt11.false)) c.four_bytes-expiry.result c.four_bytes-expiry.ensures (sym c.is_expiry_in_range.ensures ∙ c.if-not-is_expiry_in_range.true))
+    sym (second_out c.args.fields.now (omega arith) c.four_bytes-expiry.result c.four_bytes-expiry.ensures (sym c.is_expiry_in_range.ensures ∙ c.if-not-is_expiry_in_range.true))
 
 pub returns : goal.returns
 returns c =
-    c.read_with.ensures ∙ sym (second_read c.args.fields.now (omega (arith, c.if-fields-lt11.false)) c.four_bytes-expiry.result c.four_bytes-expiry.ensures (sym c.is_expiry_in_range.ensures ∙ c.if-not-is_expiry_in_range.false))
+    c.read_with.ensures ∙ sym (second_read c.args.fields.now (omega arith) c.four_bytes-expiry.result c.four_bytes-expiry.ensures (sym c.is_expiry_in_range.ensures ∙ c.if-not-is_expiry_in_range.false))
