@@ -1,14 +1,14 @@
 -- The line that an answer prints: "the number (0 where nothing stopped it), then the returned values .., separated by single spaces".
 -- Assumes nothing.
-use Rattle.std.specs.Prelude.{◌≡◌, refl, Bool, true, false, List, [], ◌∷◌, ◌++◌, ℕ, take}
+use Rattle.std.specs.Prelude.{◌≡◌, refl, Result, Ok, Err, Bool, true, false, List, [], ◌∷◌, ◌++◌, ℕ, take}
 use Rattle.rules.specs.Answer.{Value, number, integer, source, name}
 use Rattle.settings.specs.declared.Settings.{Settings}
 use Rattle.settings.specs.declared.MergeChoice.{MergeChoice}
 use Rattle.settings.specs.declared.MergeChoice.TheVariants.{DiscardLowestPriorityThenPrevious, HtpDmxMerge}
 use Rattle.settings.specs.declared.SourceLimit.{SourceLimit}
 use Rattle.settings.specs.declared.SourceLimit.TheVariants.{Unlimited, AtMost}
-use Rattle.settings_store.specs.declared.StoreSettingsAnswer.{StoreSettingsAnswer}
-use Rattle.settings_store.specs.declared.StoreSettingsAnswer.TheVariants as store
+use Rattle.settings_store.specs.declared.StoreSettingsError.{StoreSettingsError}
+use Rattle.settings_store.specs.declared.StoreSettingsError.TheVariants as store
 use Rattle.settings_store.specs.Record.{store_number, store_values}
 use Rattle.model.specs.declared.StepAnswer.{StepAnswer}
 use Rattle.model.specs.declared.StepAnswer.TheVariants as says
@@ -70,11 +70,11 @@ step_line own out (says.Repeated a l d) = stop_line own (says.Repeated a l d)
 
 -- ── settings ──
 -- "after 0 all LEN bytes as a byte string"
-abbrev pub store_line : List ℕ → StoreSettingsAnswer → List ℕ
-store_line bytes store.Stored = answer_line (store_number store.Stored) (name bytes ∷ [])
-store_line bytes (store.TooShort n) = answer_line (store_number (store.TooShort n)) (store_values (store.TooShort n))
-store_line bytes store.LimitZero = answer_line (store_number store.LimitZero) (store_values store.LimitZero)
-store_line bytes store.ExpiryOutOfRange = answer_line (store_number store.ExpiryOutOfRange) (store_values store.ExpiryOutOfRange)
+abbrev pub store_line : List ℕ → Result Unit StoreSettingsError → List ℕ
+store_line bytes (Ok u) = answer_line (store_number (Ok u)) (name bytes ∷ [])
+store_line bytes (Err (store.TooShort n)) = answer_line (store_number (Err (store.TooShort n))) (store_values (Err (store.TooShort n)))
+store_line bytes (Err store.LimitZero) = answer_line (store_number (Err store.LimitZero)) (store_values (Err store.LimitZero))
+store_line bytes (Err store.ExpiryOutOfRange) = answer_line (store_number (Err store.ExpiryOutOfRange)) (store_values (Err store.ExpiryOutOfRange))
 
 abbrev pub spaced_bit : Bool → List ℕ
 spaced_bit on = 32 ∷ bit_of on

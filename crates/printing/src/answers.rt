@@ -12,18 +12,15 @@ use crate::print::{
 };
 use model::{ClearAnswer, ExpiryAnswer, ListenAnswer, MuteAnswer, PollAnswer, StepAnswer};
 use rules::Cid;
-use settings::{MergeChoice, SettingAnswer, Settings, SourceLimit};
-use settings_store::{LoadSettingsAnswer, StoreSettingsAnswer};
+use settings::{MergeChoice, SettingError, Settings, SourceLimit};
+use settings_store::{LoadSettingsError, StoreSettingsError};
 use std::io::Stdout;
 
 // The first n elements, or all.
 pub fn front(bytes: &[u8], n: usize) -> &[u8]
     ensures { result.now ≡ take n bytes.now }
 {
-    if n < bytes.len() {
-        return &bytes[..n];
-    }
-    bytes
+    &bytes[..n.min(bytes.len())]
 }
 
 // A number with no values.
@@ -31,8 +28,8 @@ pub fn put_number(to: Stdout, out: &mut [u8], at: usize, n: u64) -> usize
     requires { Ready at out.old }
     ensures { Tells (answer_line n []) out.old at out.new result }
 {
-    let a = put_decimal(to, &mut *out, at, n);
-    put(to, &mut *out, a, 10)
+    let a = put_decimal(to, out, at, n);
+    put(to, out, a, 10)
 }
 
 // A number with a length, a count or a universe.
@@ -40,9 +37,9 @@ pub fn put_value(to: Stdout, out: &mut [u8], at: usize, n: u64, value: u64) -> u
     requires { Ready at out.old }
     ensures { Tells (answer_line n (number value ∷ [])) out.old at out.new result }
 {
-    let a = put_decimal(to, &mut *out, at, n);
-    let b = put(to, &mut *out, a, 32);
-    put_number(to, &mut *out, b, value)
+    let a = put_decimal(to, out, at, n);
+    let b = put(to, out, a, 32);
+    put_number(to, out, b, value)
 }
 
 // 0 with a yes or no.
@@ -50,10 +47,7 @@ pub fn put_flag(to: Stdout, out: &mut [u8], at: usize, on: bool) -> usize
     requires { Ready at out.old }
     ensures { Tells (flag_line on) out.old at out.new result }
 {
-    if on {
-        return put_value(to, &mut *out, at, 0, 1);
-    }
-    put_value(to, &mut *out, at, 0, 0)
+    put_value(to, out, at, 0, u64::from(on))
 }
 
 // A number with a source and a universe.
@@ -61,11 +55,11 @@ fn put_pair(to: Stdout, out: &mut [u8], at: usize, n: u64, cid: Cid, universe: u
     requires { Ready at out.old }
     ensures { Tells (answer_line n (source cid ∷ number universe ∷ [])) out.old at out.new result }
 {
-    let a = put_decimal(to, &mut *out, at, n);
-    let b = put(to, &mut *out, a, 32);
-    let d = put_cid(to, &mut *out, b, cid);
-    let e = put(to, &mut *out, d, 32);
-    put_number(to, &mut *out, e, universe as u64)
+    let a = put_decimal(to, out, at, n);
+    let b = put(to, out, a, 32);
+    let d = put_cid(to, out, b, cid);
+    let e = put(to, out, d, 32);
+    put_number(to, out, e, universe as u64)
 }
 
 // A number with the arriving sequence number, the last and the difference.
@@ -82,14 +76,14 @@ fn put_sequence(
     ensures { Tells (answer_line n (number arriving ∷ number last ∷ integer difference ∷ [])) out.old at
         out.new result }
 {
-    let a = put_decimal(to, &mut *out, at, n);
-    let b = put(to, &mut *out, a, 32);
-    let d = put_decimal(to, &mut *out, b, arriving as u64);
-    let e = put(to, &mut *out, d, 32);
-    let f = put_decimal(to, &mut *out, e, last as u64);
-    let g = put(to, &mut *out, f, 32);
-    let h = put_signed(to, &mut *out, g, difference);
-    put(to, &mut *out, h, 10)
+    let a = put_decimal(to, out, at, n);
+    let b = put(to, out, a, 32);
+    let d = put_decimal(to, out, b, arriving as u64);
+    let e = put(to, out, d, 32);
+    let f = put_decimal(to, out, e, last as u64);
+    let g = put(to, out, f, 32);
+    let h = put_signed(to, out, g, difference);
+    put(to, out, h, 10)
 }
 
 // A number with a byte string.
@@ -97,10 +91,10 @@ fn put_named(to: Stdout, out: &mut [u8], at: usize, n: u64, bytes: &[u8]) -> usi
     requires { Ready at out.old }
     ensures { Tells (answer_line n (name «bytes».now ∷ [])) out.old at out.new result }
 {
-    let a = put_decimal(to, &mut *out, at, n);
-    let b = put(to, &mut *out, a, 32);
-    let d = put_byte_string(to, &mut *out, b, bytes);
-    put(to, &mut *out, d, 10)
+    let a = put_decimal(to, out, at, n);
+    let b = put(to, out, a, 32);
+    let d = put_byte_string(to, out, b, bytes);
+    put(to, out, d, 10)
 }
 
 // A release: records, bytes and the bytes themselves.
@@ -115,13 +109,13 @@ fn put_release(
     requires { Ready at out.old }
     ensures { Tells (release_line records bytes released.now) out.old at out.new result }
 {
-    let a = put_text(to, &mut *out, at, b"0 release ");
-    let b = put_decimal(to, &mut *out, a, records as u64);
-    let d = put(to, &mut *out, b, 32);
-    let e = put_decimal(to, &mut *out, d, bytes as u64);
-    let f = put(to, &mut *out, e, 32);
-    let g = put_hex(to, &mut *out, f, front(released, bytes));
-    put(to, &mut *out, g, 10)
+    let a = put_text(to, out, at, b"0 release ");
+    let b = put_decimal(to, out, a, records as u64);
+    let d = put(to, out, b, 32);
+    let e = put_decimal(to, out, d, bytes as u64);
+    let f = put(to, out, e, 32);
+    let g = put_hex(to, out, f, front(released, bytes));
+    put(to, out, g, 10)
 }
 
 pub fn put_step(
@@ -139,7 +133,7 @@ pub fn put_step(
         StepAnswer::Nothing => put_number(to, out, at, 0),
         StepAnswer::Released(records, bytes) => put_release(to, out, at, records, bytes, released),
         StepAnswer::TooLong(n) => put_value(to, out, at, 1, n as u64),
-        StepAnswer::IllegalUniverse(u) => put_value(to, out, at, 2, u as u64),
+        StepAnswer::IllegalUniverse(u) => put_value(to, out, at, 2, u64::from(u)),
         StepAnswer::UniverseTimeout(c, u) => put_pair(to, out, at, 4, c, u),
         StepAnswer::UniverseTerminated(c, u) => put_pair(to, out, at, 5, c, u),
         StepAnswer::SourcesExceeded(n) => put_value(to, out, at, 6, n as u64),
@@ -182,7 +176,7 @@ pub fn put_listen(to: Stdout, out: &mut [u8], at: usize, answer: ListenAnswer) -
 {
     match answer {
         ListenAnswer::Listening => put_number(to, out, at, 0),
-        ListenAnswer::IllegalUniverse(u) => put_value(to, out, at, 2, u as u64),
+        ListenAnswer::IllegalUniverse(u) => put_value(to, out, at, 2, u64::from(u)),
         ListenAnswer::ListenedFull => put_number(to, out, at, 11),
     }
 }
@@ -193,8 +187,8 @@ pub fn put_mute(to: Stdout, out: &mut [u8], at: usize, answer: MuteAnswer) -> us
 {
     match answer {
         MuteAnswer::Muted => put_number(to, out, at, 0),
-        MuteAnswer::IllegalUniverse(u) => put_value(to, out, at, 2, u as u64),
-        MuteAnswer::UniverseNotRegistered(u) => put_value(to, out, at, 3, u as u64),
+        MuteAnswer::IllegalUniverse(u) => put_value(to, out, at, 2, u64::from(u)),
+        MuteAnswer::UniverseNotRegistered(u) => put_value(to, out, at, 3, u64::from(u)),
     }
 }
 
@@ -208,14 +202,19 @@ pub fn put_clear(to: Stdout, out: &mut [u8], at: usize, answer: ClearAnswer) -> 
     }
 }
 
-pub fn put_setting(to: Stdout, out: &mut [u8], at: usize, answer: SettingAnswer) -> usize
+pub fn put_setting(
+    to: Stdout,
+    out: &mut [u8],
+    at: usize,
+    answer: Result<Settings, SettingError>,
+) -> usize
     requires { Ready at out.old }
     ensures { Tells (answer_line (number_of answer) (values_of answer)) out.old at out.new result }
 {
     match answer {
-        SettingAnswer::Set => put_number(to, out, at, 0),
-        SettingAnswer::LimitZero => put_number(to, out, at, 14),
-        SettingAnswer::ExpiryOutOfRange => put_number(to, out, at, 20),
+        Ok(_) => put_number(to, out, at, 0),
+        Err(SettingError::LimitZero) => put_number(to, out, at, 14),
+        Err(SettingError::ExpiryOutOfRange) => put_number(to, out, at, 20),
     }
 }
 
@@ -224,28 +223,33 @@ pub fn put_store(
     to: Stdout,
     out: &mut [u8],
     at: usize,
-    answer: StoreSettingsAnswer,
+    answer: Result<(), StoreSettingsError>,
     bytes: &[u8],
 ) -> usize
     requires { Ready at out.old }
     ensures { Tells (store_line «bytes».now answer) out.old at out.new result }
 {
     match answer {
-        StoreSettingsAnswer::Stored => put_named(to, out, at, 0, bytes),
-        StoreSettingsAnswer::TooShort(n) => put_value(to, out, at, 15, n as u64),
-        StoreSettingsAnswer::LimitZero => put_number(to, out, at, 14),
-        StoreSettingsAnswer::ExpiryOutOfRange => put_number(to, out, at, 20),
+        Ok(()) => put_named(to, out, at, 0, bytes),
+        Err(StoreSettingsError::TooShort(n)) => put_value(to, out, at, 15, n as u64),
+        Err(StoreSettingsError::LimitZero) => put_number(to, out, at, 14),
+        Err(StoreSettingsError::ExpiryOutOfRange) => put_number(to, out, at, 20),
     }
 }
 
-pub fn put_load(to: Stdout, out: &mut [u8], at: usize, answer: LoadSettingsAnswer) -> usize
+pub fn put_load(
+    to: Stdout,
+    out: &mut [u8],
+    at: usize,
+    answer: Result<Settings, LoadSettingsError>,
+) -> usize
     requires { Ready at out.old }
     ensures { Tells (answer_line (load_number answer) (load_values answer)) out.old at out.new result }
 {
     match answer {
-        LoadSettingsAnswer::Loaded(_) => put_number(to, out, at, 0),
-        LoadSettingsAnswer::NoSettingsRecord => put_number(to, out, at, 22),
-        LoadSettingsAnswer::UnreadableSettingsRecord => put_number(to, out, at, 23),
+        Ok(_) => put_number(to, out, at, 0),
+        Err(LoadSettingsError::NoSettingsRecord) => put_number(to, out, at, 22),
+        Err(LoadSettingsError::UnreadableSettingsRecord) => put_number(to, out, at, 23),
     }
 }
 
@@ -253,8 +257,8 @@ fn put_spaced_bit(to: Stdout, out: &mut [u8], at: usize, on: bool) -> usize
     requires { Ready at out.old }
     ensures { Tells (spaced_bit on) out.old at out.new result }
 {
-    let a = put(to, &mut *out, at, 32);
-    put_bit(to, &mut *out, a, on)
+    let a = put(to, out, at, 32);
+    put_bit(to, out, a, on)
 }
 
 fn put_merge(to: Stdout, out: &mut [u8], at: usize, choice: MergeChoice) -> usize
@@ -273,7 +277,7 @@ fn put_limit(to: Stdout, out: &mut [u8], at: usize, limit: SourceLimit) -> usize
 {
     match limit {
         SourceLimit::Unlimited => put_text(to, out, at, b"none"),
-        SourceLimit::AtMost(n) => put_decimal(to, out, at, n as u64),
+        SourceLimit::AtMost(n) => put_decimal(to, out, at, u64::from(n)),
     }
 }
 
@@ -282,17 +286,15 @@ pub fn put_settings(to: Stdout, out: &mut [u8], at: usize, settings: Settings) -
     requires { Ready at out.old }
     ensures { Tells (settings_line settings) out.old at out.new result }
 {
-    let merge = settings.merge;
-    let limit = settings.source_limit;
-    let a = put(to, &mut *out, at, 48);
-    let b = put_spaced_bit(to, &mut *out, a, settings.process_preview_data);
-    let d = put_spaced_bit(to, &mut *out, b, settings.announce_source_discovery);
-    let e = put_spaced_bit(to, &mut *out, d, settings.announce_stream_termination);
-    let f = put_spaced_bit(to, &mut *out, e, settings.announce_timeout);
-    let g = put(to, &mut *out, f, 32);
-    let h = put_merge(to, &mut *out, g, merge);
-    let i = put(to, &mut *out, h, 32);
-    let j = put_limit(to, &mut *out, i, limit);
-    let k = put(to, &mut *out, j, 32);
-    put_number(to, &mut *out, k, settings.discovery_expiry as u64)
+    let a = put(to, out, at, 48);
+    let b = put_spaced_bit(to, out, a, settings.process_preview_data);
+    let d = put_spaced_bit(to, out, b, settings.announce_source_discovery);
+    let e = put_spaced_bit(to, out, d, settings.announce_stream_termination);
+    let f = put_spaced_bit(to, out, e, settings.announce_timeout);
+    let g = put(to, out, f, 32);
+    let h = put_merge(to, out, g, settings.merge);
+    let i = put(to, out, h, 32);
+    let j = put_limit(to, out, i, settings.source_limit);
+    let k = put(to, out, j, 32);
+    put_number(to, out, k, settings.discovery_expiry as u64)
 }

@@ -30,11 +30,9 @@ pub fn put(to: Stdout, out: &mut [u8], at: usize, b: u8) -> usize
         out[at] = b;
         return at + 1;
     }
-    if flush(to, &*out, at) {
-        out[0] = b;
-        return 1;
+    if !flush(to, out, at) {
+        out[last] = 1;
     }
-    out[last] = 1;
     out[0] = b;
     1
 }
@@ -44,10 +42,8 @@ pub fn put_text(to: Stdout, out: &mut [u8], at: usize, text: &[u8]) -> usize
     ensures { Tells text.now out.old at out.new result }
 {
     let mut n = at;
-    let mut i: usize = 0;
-    while i < text.len() {
-        n = put(to, &mut *out, n, text[i]);
-        i += 1;
+    for b in text {
+        n = put(to, out, n, *b);
     }
     n
 }
@@ -65,29 +61,31 @@ pub fn put_signed(to: Stdout, out: &mut [u8], at: usize, n: i8) -> usize
     requires { Ready at out.old }
     ensures { Tells (signed_of n) out.old at out.new result }
 {
-    let m = rules::magnitude(n) as u64;
+    let magnitude = u64::from(n.unsigned_abs());
     if n < 0 {
-        let a = put(to, &mut *out, at, 45);
-        return put_decimal(to, &mut *out, a, m);
+        let a = put(to, out, at, b'-');
+        put_decimal(to, out, a, magnitude)
+    } else {
+        put_decimal(to, out, at, magnitude)
     }
-    put_decimal(to, &mut *out, at, m)
 }
 
 pub fn put_bit(to: Stdout, out: &mut [u8], at: usize, on: bool) -> usize
     requires { Ready at out.old }
     ensures { Tells (bit_of on) out.old at out.new result }
 {
-    if on {
-        return put(to, &mut *out, at, 49);
-    }
-    put(to, &mut *out, at, 48)
+    put(to, out, at, if on { b'1' } else { b'0' })
 }
 
 fn glyph(digit: u8) -> u8
     requires { digit ≤ 15 }
     ensures { result ≡ Digits·glyph digit }
 {
-    if digit < 10 { 48 + digit } else { 87 + digit }
+    if digit < 10 {
+        b'0' + digit
+    } else {
+        b'a' - 10 + digit
+    }
 }
 
 pub fn put_hex(to: Stdout, out: &mut [u8], at: usize, bytes: &[u8]) -> usize
@@ -95,12 +93,9 @@ pub fn put_hex(to: Stdout, out: &mut [u8], at: usize, bytes: &[u8]) -> usize
     ensures { Tells (hex_text bytes.now) out.old at out.new result }
 {
     let mut n = at;
-    let mut i: usize = 0;
-    while i < bytes.len() {
-        let b = bytes[i];
-        n = put(to, &mut *out, n, glyph(b / 16));
-        n = put(to, &mut *out, n, glyph(b % 16));
-        i += 1;
+    for b in bytes {
+        n = put(to, out, n, glyph(*b / 16));
+        n = put(to, out, n, glyph(*b % 16));
     }
     n
 }
@@ -109,18 +104,18 @@ pub fn put_cid(to: Stdout, out: &mut [u8], at: usize, cid: Cid) -> usize
     requires { Ready at out.old }
     ensures { Tells (cid_text cid) out.old at out.new result }
 {
-    let bytes = cid.to_bytes();
-    put_hex(to, out, at, &bytes)
+    put_hex(to, out, at, &cid.to_bytes())
 }
 
 pub fn put_byte_string(to: Stdout, out: &mut [u8], at: usize, bytes: &[u8]) -> usize
     requires { Ready at out.old }
     ensures { Tells (byte_text bytes.now) out.old at out.new result }
 {
-    if bytes.len() == 0 {
-        return put(to, &mut *out, at, 45);
+    if bytes.is_empty() {
+        put(to, out, at, b'-')
+    } else {
+        put_hex(to, out, at, bytes)
     }
-    put_hex(to, &mut *out, at, bytes)
 }
 
 // A comma and a number for each number from this place on.
@@ -129,11 +124,9 @@ fn put_numbers(to: Stdout, out: &mut [u8], at: usize, list: &[u16]) -> usize
     ensures { Tells (tail_text list.now) out.old at out.new result }
 {
     let mut n = at;
-    let mut i: usize = 0;
-    while i < list.len() {
-        n = put(to, &mut *out, n, 44);
-        n = put_decimal(to, &mut *out, n, list[i] as u64);
-        i += 1;
+    for u in list {
+        n = put(to, out, n, b',');
+        n = put_decimal(to, out, n, u64::from(*u));
     }
     n
 }
@@ -142,9 +135,11 @@ pub fn put_list(to: Stdout, out: &mut [u8], at: usize, list: &[u16]) -> usize
     requires { Ready at out.old }
     ensures { Tells (list_text list.now) out.old at out.new result }
 {
-    if list.len() == 0 {
-        return put(to, &mut *out, at, 45);
+    match list {
+        [] => put(to, out, at, b'-'),
+        [first, others @ ..] => {
+            let a = put_decimal(to, out, at, u64::from(*first));
+            put_numbers(to, out, a, others)
+        }
     }
-    let a = put_decimal(to, &mut *out, at, list[0] as u64);
-    put_numbers(to, &mut *out, a, &list[1..])
 }
