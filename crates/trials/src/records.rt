@@ -6,7 +6,7 @@ ghost use Rattle.settings_store.specs.Record.{store_number, load_number};
 use crate::report::{Outcome, hex, report};
 use settings::{MergeChoice, Settings, SourceLimit};
 use settings_calls::{load_settings, store_settings};
-use settings_store::{Layouts, LoadSettingsAnswer, StoreSettingsAnswer};
+use settings_store::{Layouts, LoadSettingsError, StoreSettingsError};
 use std::io;
 use std::io::Stdout;
 
@@ -22,39 +22,39 @@ fn built(limit: u16, expiry: u32) -> Settings {
     }
 }
 
-fn store_number(a: StoreSettingsAnswer) -> u64
-    ensures { result ≡ store_number a }
+fn store_number(answer: Result<(), StoreSettingsError>) -> u64
+    ensures { result ≡ store_number answer }
 {
-    match a {
-        StoreSettingsAnswer::Stored => 0,
-        StoreSettingsAnswer::TooShort(_) => 15,
-        StoreSettingsAnswer::LimitZero => 14,
-        StoreSettingsAnswer::ExpiryOutOfRange => 20,
+    match answer {
+        Ok(()) => 0,
+        Err(StoreSettingsError::TooShort(_)) => 15,
+        Err(StoreSettingsError::LimitZero) => 14,
+        Err(StoreSettingsError::ExpiryOutOfRange) => 20,
     }
 }
 
-fn load_number(a: LoadSettingsAnswer) -> u64
-    ensures { result ≡ load_number a }
+fn load_number(answer: Result<Settings, LoadSettingsError>) -> u64
+    ensures { result ≡ load_number answer }
 {
-    match a {
-        LoadSettingsAnswer::Loaded(_) => 0,
-        LoadSettingsAnswer::NoSettingsRecord => 22,
-        LoadSettingsAnswer::UnreadableSettingsRecord => 23,
+    match answer {
+        Ok(_) => 0,
+        Err(LoadSettingsError::NoSettingsRecord) => 22,
+        Err(LoadSettingsError::UnreadableSettingsRecord) => 23,
     }
 }
 
-impl From<StoreSettingsAnswer> for Outcome {
-    fn from(answer: StoreSettingsAnswer) -> Outcome {
+impl From<Result<(), StoreSettingsError>> for Outcome {
+    fn from(answer: Result<(), StoreSettingsError>) -> Outcome {
         let value = match answer {
-            StoreSettingsAnswer::TooShort(n) => n as u64,
+            Err(StoreSettingsError::TooShort(n)) => n as u64,
             _ => 0,
         };
         Outcome(store_number(answer), value)
     }
 }
 
-impl From<LoadSettingsAnswer> for Outcome {
-    fn from(answer: LoadSettingsAnswer) -> Outcome {
+impl From<Result<Settings, LoadSettingsError>> for Outcome {
+    fn from(answer: Result<Settings, LoadSettingsError>) -> Outcome {
         Outcome(load_number(answer), 0)
     }
 }

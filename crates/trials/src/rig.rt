@@ -4,6 +4,7 @@ ghost use Rattle.trials.specs.View.{memory_in};
 
 use crate::memory::Memory;
 use handlers::{handle_data_packet, handle_universe_discovery_packet};
+use laws::After;
 use model::{ListenAnswer, StepAnswer};
 use packets::{DataPacket, DiscoveryPacket};
 use receiver::Receiver;
@@ -61,11 +62,11 @@ impl Rig {
     }
 
     pub fn listen(&mut self, universes: &[u16]) -> ListenAnswer {
-        let a = self
+        let After { left, answer } = self
             .receiver
             .listen_universes(&mut self.memory.heard, universes);
-        self.receiver = a.receiver;
-        a.answer
+        self.receiver = left;
+        answer
     }
 
     pub fn reset_pairs(&mut self) {
@@ -85,7 +86,7 @@ impl Rig {
         universe: u16,
         address: u16,
     ) -> StepAnswer {
-        let h = handle_data_packet(
+        let After { left, answer } = handle_data_packet(
             self.receiver,
             &mut self.memory.data_pairs,
             &mut self.memory.data_sources,
@@ -104,8 +105,8 @@ impl Rig {
             &[0, 255],
             &mut self.out,
         );
-        self.receiver = h.receiver;
-        h.answer
+        self.receiver = left;
+        answer
     }
 
     // A page of a source.
@@ -123,7 +124,7 @@ impl Rig {
             page,
             last_page,
         };
-        let h = handle_universe_discovery_packet(
+        let After { left, answer } = handle_universe_discovery_packet(
             self.receiver,
             &mut self.memory.data_pairs,
             &mut self.memory.data_sources,
@@ -143,7 +144,7 @@ impl Rig {
             list,
             &self.out,
         );
-        self.receiver = h.receiver;
-        h.answer
+        self.receiver = left;
+        answer
     }
 }
