@@ -15,8 +15,8 @@ use settings::MergeChoice;
 use waiting::{RELEASE_LENGTH, ReleaseAnswer, StoreAnswer, StoreCall, WAITING};
 use waiting_joins::join_entry;
 use waiting_store::{
-    EntryRows, Retain, any_dropped, compact, count_of, find_universe, head_of, insert_at,
-    remove_at, write_release,
+    EntryRows, any_dropped, compact, count_of, find_universe, head_of, insert_at, remove_at,
+    write_release,
 };
 
 // How many universes wait; their rows and blocks are lent to every call.
@@ -130,10 +130,10 @@ impl Waiting {
         ensures { SweptCall self.count rows.old store.old reading
             rows.new store.new result.count }
     {
-        let test = Retain::Fresh(reading);
-        if any_dropped(rows, self.count, test) {
+        let is_fresh = |d: DmxData| !rules::is_expired(reading, d.recv_timestamp);
+        if any_dropped(rows, self.count, is_fresh) {
             Waiting {
-                count: compact(rows, store, self.count, test),
+                count: compact(rows, store, self.count, is_fresh),
             }
         } else {
             self
@@ -162,7 +162,7 @@ impl Waiting {
         }
         let n = self.count;
         let w = write_release(rows, store, n, address, reading, out);
-        let count = compact(rows, store, n, Retain::OtherThan(address));
+        let count = compact(rows, store, n, |d| d.sync_uni != address);
         After {
             left: Waiting { count },
             answer: ReleaseAnswer::Released(w.records, w.bytes),

@@ -1,17 +1,15 @@
 -- What the functions over rows and blocks show, in named parts.
 -- Assumes nothing.
-use Rattle.std.specs.Prelude.{◌≡◌, Bool, not, List, [], ◌≢◌, ℕ, ◌+◌, ◌-◌, ◌*◌, ◌≤◌, ◌<◌, ltb, eqb, length, take, drop, get_or, set, Result, Ok, Err}
+use Rattle.std.specs.Prelude.{◌≡◌, Bool, List, [], ◌≢◌, ℕ, ◌+◌, ◌-◌, ◌*◌, ◌≤◌, ◌<◌, ltb, length, take, drop, get_or, set, Result, Ok, Err}
 use Rattle.std.proofs.Common.{◌∙◌, arith, length-drop}
 use Rattle.std.specs.List.{copy_within}
+use denote.Param.Members.{Shared}
 use Rattle.laws.specs.Place.{prefix}
 use Rattle.laws.specs.Parts.{pasted, paste_part}
-use Rattle.rules.specs.Age.{expired}
 use Rattle.merge.specs.declared.DmxData.{DmxData}
 use Rattle.merge.specs.Merge.{Dmx, most_values}
 use Rattle.merge.specs.Views.{dmx}
 use Rattle.waiting.specs.Waiting.{capacity}
-use Rattle.waiting_store.specs.declared.Retain.{Retain}
-use Rattle.waiting_store.specs.declared.Retain.TheVariants.{Fresh, OtherThan}
 use Rattle.waiting_store.specs.Entries.{head_of, count_of, entries, nothing, Room, Lent, lent_put, put_entry, moved_entry, length_block}
 
 -- a row made of a header and a count
@@ -29,10 +27,9 @@ pub record Held (rows : List (List ℕ)) (store : List ℕ) (rows' : List (List 
   pub lends : Lent rows store rows' store'
   pub holds : take n (entries rows' store') ≡ ds
 
--- what a pass keeps
-abbrev pub retained : Retain → DmxData → Bool
-retained (Fresh now) d = not (expired now d.recv_timestamp)
-retained (OtherThan a) d = not (eqb d.sync_uni a)
+-- a closure computes the test t of a header
+abbrev pub Computes : {F : Type 0} → Shared F (DmxData × Unit {0}) Bool → (DmxData → Bool) → F → Type 0
+Computes g t f = (d : DmxData) (b : Bool) → g.post f (d, tt) b → b ≡ t d
 
 -- the rows of universes below u
 abbrev pub below : ℕ → DmxData → Bool

@@ -3,7 +3,8 @@
 
 #![tactic(auto)]
 
-ghost use Rattle.std.specs.Prelude.{◌≡◌, not, ◌+◌, ◌-◌, ◌≤◌, ◌<◌, length, take, get_or, set};
+ghost use Rattle.merge.specs.declared.DmxData.{DmxData};
+ghost use Rattle.std.specs.Prelude.{◌≡◌, Bool, not, ◌+◌, ◌-◌, ◌≤◌, ◌<◌, length, take, get_or, set};
 ghost use Rattle.std.specs.List.{prefix_len, list_any};
 ghost use Rattle.laws.specs.Table.{keep};
 ghost use Rattle.laws.specs.Place.{insert_at, remove_at};
@@ -12,7 +13,7 @@ ghost use Rattle.merge.specs.Views.{dmx};
 ghost use Rattle.waiting.specs.Waiting.{capacity, released};
 ghost use Rattle.waiting.specs.Records.{most_bytes};
 ghost use Rattle.waiting_store.specs.Entries.{head_of, count_of, entries, nothing, Room};
-ghost use Rattle.waiting_store.specs.Posts.{Rowed, below, retained, Sought};
+ghost use Rattle.waiting_store.specs.Posts.{Computes, Rowed, below, Sought};
 ghost use Rattle.waiting_store.specs.Promises.{entries_before, Become, FirstBecome};
 ghost use Rattle.waiting_store.specs.Written.{due, Laid, Writing};
 
@@ -153,44 +154,32 @@ fn keep_entry(rows: &mut EntryRows, store: &mut [u8], from: usize, to: usize)
     }
 }
 
-// Which entries a pass keeps: those not expired at a reading, or those of other addresses.
-// For `waiting_calls`.
-#[derive(Clone, Copy)]
-pub enum Retain {
-    Fresh(u64),
-    OtherThan(u16),
-}
-
-fn is_retained(test: Retain, d: DmxData) -> bool
-    ensures { result ≡ retained test d }
-{
-    match test {
-        Retain::Fresh(now) => !rules::is_expired(now, d.recv_timestamp),
-        Retain::OtherThan(address) => d.sync_uni != address,
-    }
-}
-
 // Is there an entry among the first n that the pass would not keep.
 // For `waiting_calls`.
-pub fn any_dropped(rows: &EntryRows, n: usize, test: Retain) -> bool
-    requires { n ≤ capacity }
-    ensures { result ≡ list_any (λ row. not (retained test (head_of row))) (take n rows.now) }
+pub fn any_dropped<F: Fn(DmxData) -> bool>(rows: &EntryRows, n: usize, keeps: F) -> bool
+    requires { (n ≤ capacity) × F.IsAlwaysCallable keeps }
+    ensures { (t : DmxData → Bool) → Computes F.Fn t keeps
+        → result ≡ list_any (λ row. not (t (head_of row))) (take n rows.now) }
 {
-    rows[..n]
-        .iter()
-        .any(|row| !is_retained(test, head_of(*row)))
+    rows[..n].iter().any(|row| !keeps(head_of(*row)))
 }
 
-// The entries that pass the test, moved down over the others; how many they are.
+// The entries that a pass keeps, moved down over the others; how many they are.
 // For `waiting_calls`.
-pub fn compact(rows: &mut EntryRows, store: &mut [u8], n: usize, test: Retain) -> usize
-    requires { Room rows.old store.old × (n ≤ capacity) }
+pub fn compact<F: Fn(DmxData) -> bool>(
+    rows: &mut EntryRows,
+    store: &mut [u8],
+    n: usize,
+    keeps: F,
+) -> usize
+    requires { Room rows.old store.old × (n ≤ capacity) × F.IsAlwaysCallable keeps }
     ensures { let es = entries_before rows store in
-        (result ≤ n) × FirstBecome rows store result (keep (λ (e : Dmx). retained test e.head) (take n es)) }
+        (result ≤ n) × ((t : DmxData → Bool) → Computes F.Fn t keeps
+        → FirstBecome rows store result (keep (λ (e : Dmx). t e.head) (take n es))) }
 {
     let mut kept = 0;
     for i in 0..n {
-        if is_retained(test, head_of(rows[i])) {
+        if keeps(head_of(rows[i])) {
             keep_entry(rows, store, i, kept);
             kept += 1;
         }
