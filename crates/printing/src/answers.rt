@@ -17,10 +17,10 @@ use settings_store::{LoadSettingsError, StoreSettingsError};
 use std::io::Stdout;
 
 // The first n elements, or all.
-pub fn front(bytes: &[u8], n: usize) -> &[u8]
-    ensures { result.now ≡ take n bytes.now }
+pub fn front<T>(elements: &[T], n: usize) -> &[T]
+    ensures { result.now ≡ take n elements.now }
 {
-    &bytes[..n.min(bytes.len())]
+    &elements[..n.min(elements.len())]
 }
 
 // A number with no values.
