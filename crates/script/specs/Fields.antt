@@ -1,6 +1,6 @@
 -- How a field of a script's line is read.
 -- Assumes nothing.
-use Rattle.std.specs.Prelude.{◌≡◌, bytes_eq, Option, Some, None, Bool, true, false, cond, not, List, [], ◌∷◌, ◌++◌, ℕ, ◌+◌, ◌*◌, ◌-◌, ◌/◌, ◌%◌, ltb, leb, eqb, length, take}
+use Rattle.std.specs.Prelude.{◌≡◌, bytes_eq, Option, Some, None, Bool, true, false, cond, not, List, [], ◌∷◌, ◌++◌, ℕ, ◌+◌, ◌*◌, ◌-◌, ◌/◌, ◌%◌, ◌≤◌, ltb, leb, eqb, length, take}
 use Rattle.std.specs.List.{prefix_len}
 use Rattle.rules.specs.declared.Cid.{Cid}
 use Rattle.rules.specs.Cid.{cid_of}
@@ -12,6 +12,12 @@ eql = bytes_eq
 -- how many bytes stand before the first mark
 abbrev pub ending : ℕ → List ℕ → ℕ
 ending mark s = prefix_len (λ b. not (eqb b mark)) s
+
+-- the end of the first field. The second part follows from the others; it is what a part of the text is asked for.
+pub record Ends (mark : ℕ) (s : List ℕ) (e : ℕ) : Type 0 where
+  pub ends_within : e ≤ length s
+  pub ends_counts : e ≡ length (take e s)
+  pub ends_at : e ≡ ending mark s
 
 -- ── decimal numbers ──
 abbrev pub digit : ℕ → Bool

@@ -4,3 +4,4 @@ pub mod Lines
 pub mod LineLaws
 pub mod Script
 pub mod ScriptLaws
+pub mod TurnLaws
