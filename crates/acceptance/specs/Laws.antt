@@ -17,7 +17,8 @@ use Rattle.waiting_store.specs.Entries.{waiting_of, lent_none}
 use Rattle.waiting_store.specs.Entries as entries
 use Rattle.waiting_store.specs.Written.{Laid}
 use Rattle.waiting_calls.specs.Calls.{Yields, StoredCall, StoreCalled, taken_is, taken_call}
-use Rattle.listening.specs.declared.ListenDone.{ListenDone}
+use Rattle.laws.specs.declared.After.{After}
+use Rattle.listening.specs.declared.Listened.{Listened}
 use Rattle.listening.specs.View.{listened_of, Listens}
 use Rattle.listening.specs.View as listening
 use Rattle.model.specs.declared.StepAnswer.{StepAnswer}
@@ -49,10 +50,10 @@ releases now p vs n n' rows rows' store store' out out' r y l = record {
 }
 
 -- ── holding ──
-module _ (S : Settings) (now : ℕ) (d : model.DataPacket) (m : Lent) (kw : entries.Kept m.count m.rows m.store) (r : ListenDone) (heard' : List ℕ)
+module _ (S : Settings) (now : ℕ) (d : model.DataPacket) (m : Lent) (kw : entries.Kept m.count m.rows m.store) (r : After Listened ListenAnswer) (heard' : List ℕ)
     (l : Listens (d.address ∷ []) m.listened m.heard r heard') where
   after : List ℕ
-  after = listened_of r.listened heard'
+  after = listened_of r.left heard'
 
   -- what listening makes of any state with this list
   told : (s : State) → s.listened ≡ hears m → synchronised S now d s ≡ heard r.answer (stored S now d (with_listened after s)) s
@@ -69,11 +70,11 @@ module _ (S : Settings) (now : ℕ) (d : model.DataPacket) (m : Lent) (kw : entr
   unchanged : (s : State) → s.waiting ≡ waits m → s.listened ≡ hears m → after ≡ hears m → s ≡ with_waiting (waits m) (with_listened after s)
   unchanged s p q e = λ i. record { data_pairs = s.data_pairs; sync_pairs = s.sync_pairs; waiting = p i; listened = (q ∙ sym e) i; discovered = s.discovered }
 
-  ready_refused : Ready m (lent_of m.count r.listened m.rows m.store heard')
+  ready_refused : Ready m (lent_of m.count r.left m.rows m.store heard')
   ready_refused = record { kept_waiting = kw; lent_waiting = lent_none m.rows m.store; kept_listened = l.kept }
 
   pub holds_illegal : (u : ℕ) → r.answer ≡ listen.IllegalUniverse u
-      → Holds S now d m (lent_of m.count r.listened m.rows m.store heard') (says.IllegalUniverse u)
+      → Holds S now d m (lent_of m.count r.left m.rows m.store heard') (says.IllegalUniverse u)
   unfolding heard
   holds_illegal u e = record {
     outcome_is = λ s p q.
@@ -83,7 +84,7 @@ module _ (S : Settings) (now : ℕ) (d : model.DataPacket) (m : Lent) (kw : entr
   }
 
   pub holds_full : r.answer ≡ listen.ListenedFull
-      → Holds S now d m (lent_of m.count r.listened m.rows m.store heard') says.ListenedFull
+      → Holds S now d m (lent_of m.count r.left m.rows m.store heard') says.ListenedFull
   unfolding heard
   holds_full e = record {
     outcome_is = λ s p q.
@@ -94,7 +95,7 @@ module _ (S : Settings) (now : ℕ) (d : model.DataPacket) (m : Lent) (kw : entr
 
   pub holds_stored : (n' : ℕ) (rows' : Rows) (store' : List ℕ) (a : StoreAnswer) → r.answer ≡ listen.Listening
       → StoredCall m.count m.rows m.store S.merge (dmx now d) rows' store' n' a
-      → Holds S now d m (lent_of n' r.listened rows' store' heard') (kept a)
+      → Holds S now d m (lent_of n' r.left rows' store' heard') (kept a)
   unfolding heard stored
   holds_stored n' rows' store' a e c = record {
     outcome_is = λ s p q.
@@ -104,20 +105,20 @@ module _ (S : Settings) (now : ℕ) (d : model.DataPacket) (m : Lent) (kw : entr
   }
     where
       into : (s : State) → s.waiting ≡ waits m
-          → stored S now d (with_listened (listened_of r.listened heard') s)
-          ≡ record { state = with_waiting (waiting_of n' rows' store') (with_listened (listened_of r.listened heard') s); answer = kept a; released = [] }
+          → stored S now d (with_listened (listened_of r.left heard') s)
+          ≡ record { state = with_waiting (waiting_of n' rows' store') (with_listened (listened_of r.left heard') s); answer = kept a; released = [] }
       into s p =
           let x = ap (waiting.stored S.merge (dmx now d)) p in
           let u : (waiting.stored S.merge (dmx now d) s.waiting).0 ≡ waiting_of n' rows' store' = ap (λ (y : List Dmx × StoreAnswer). y.0) x ∙ sym c.yields.view in
           let v : (waiting.stored S.merge (dmx now d) s.waiting).1 ≡ a = ap (λ (y : List Dmx × StoreAnswer). y.1) x ∙ sym c.answers in
-          λ i. record { state = with_waiting (u i) (with_listened (listened_of r.listened heard') s); answer = kept (v i); released = [] }
+          λ i. record { state = with_waiting (u i) (with_listened (listened_of r.left heard') s); answer = kept (v i); released = [] }
 
   -- values within 513 are taken
   pub holds_called : (n' : ℕ) (rows' : Rows) (store' : List ℕ) (c : StoreCall) → r.answer ≡ listen.Listening → length d.values ≤ 513
       → StoreCalled m.count m.rows m.store S.merge (dmx now d) rows' store' n' c
-      → Holds S now d m (lent_of n' r.listened rows' store' heard') (store_said c)
+      → Holds S now d m (lent_of n' r.left rows' store' heard') (store_said c)
   holds_called n' rows' store' c e f k =
-      subst (λ (a : StepAnswer). Holds S now d m (lent_of n' r.listened rows' store' heard') a)
+      subst (λ (a : StepAnswer). Holds S now d m (lent_of n' r.left rows' store' heard') a)
       (ap store_said (sym (taken_is m.count m.rows m.store S.merge (dmx now d) rows' store' n' f c k)))
       (holds_stored n' rows' store' (waiting.stored S.merge (dmx now d) (waits m)).1 e (taken_call m.count m.rows m.store S.merge (dmx now d) rows' store' n' f c k))
 

@@ -11,6 +11,7 @@ ghost use Rattle.waiting.specs.Records.{most_bytes};
 ghost use Rattle.merge.specs.Merge.{most_values};
 
 use answers::stored_answer;
+use laws::After;
 use listening::{Listened, ListenedUniverses};
 use model::{ListenAnswer, StepAnswer};
 use packets::{DataPacket, dmx_data};
@@ -18,12 +19,7 @@ use settings::Settings;
 use waiting_calls::Waiting;
 use waiting_store::{EntryRows, write_record};
 
-#[derive(Clone, Copy)]
-struct PacketReleased {
-    waiting: Waiting,
-    bytes: usize,
-}
-
+// What an accepted packet leaves, and what the step answers.
 #[derive(Clone, Copy)]
 pub struct Accepted {
     pub waiting: Waiting,
@@ -31,7 +27,7 @@ pub struct Accepted {
     pub answer: StepAnswer,
 }
 
-// Address 0: this universe's waiting data goes, and the packet is released.
+// Address 0: this universe's waiting data goes, and the packet is released. Answers the bytes written.
 fn release_packet(
     waiting: Waiting,
     rows: &mut EntryRows,
@@ -40,19 +36,16 @@ fn release_packet(
     packet: DataPacket,
     values: &[u8],
     out: &mut [u8],
-) -> PacketReleased
+) -> After<Waiting, usize>
     requires { WaitingKept waiting.count rows.old store.old × (most_bytes ≤ length out.old) × (length values.now ≤ most_values) }
     ensures { Releases reading (packet_of packet values.now)
         waiting.count rows.old store.old out.old
-        result.waiting.count rows.new store.new out.new result.bytes }
+        result.left.count rows.new store.new out.new result.answer }
 {
-    let c = waiting.clear_waiting_data(&mut *rows, &mut *store, packet.universe);
-    let w = c.waiting;
-    let d = dmx_data(packet, reading);
-    let n = write_record(&mut *out, 0, d, values);
-    PacketReleased {
-        waiting: w,
-        bytes: n,
+    let c = waiting.clear_waiting_data(rows, store, packet.universe);
+    After {
+        left: c.left,
+        answer: write_record(out, 0, dmx_data(packet, reading), values),
     }
 }
 
@@ -73,31 +66,30 @@ fn hold_packet(
         (lent_of waiting.count listened rows.old store.old heard.old)
         (lent_of result.waiting.count result.listened rows.new store.new heard.new) result.answer }
 {
-    let l = listened.listen_universe(&mut *heard, packet.address);
-    let next = l.listened;
-    let told = l.answer;
-    match told {
-        ListenAnswer::IllegalUniverse(u) => Accepted {
-            waiting: waiting,
-            listened: next,
-            answer: StepAnswer::IllegalUniverse(u),
+    let l = listened.listen_universe(heard, packet.address);
+    match l.answer {
+        ListenAnswer::IllegalUniverse(universe) => Accepted {
+            waiting,
+            listened: l.left,
+            answer: StepAnswer::IllegalUniverse(universe),
         },
         ListenAnswer::ListenedFull => Accepted {
-            waiting: waiting,
-            listened: next,
+            waiting,
+            listened: l.left,
             answer: StepAnswer::ListenedFull,
         },
         ListenAnswer::Listening => {
-            let choice = settings.merge;
-            let d = dmx_data(packet, reading);
-            let s = waiting.store_waiting_data(&mut *rows, &mut *store, choice, d, values);
-            let w = s.waiting;
-            let a = s.answer;
-            let answer = stored_answer(a);
+            let s = waiting.store_waiting_data(
+                rows,
+                store,
+                settings.merge,
+                dmx_data(packet, reading),
+                values,
+            );
             Accepted {
-                waiting: w,
-                listened: next,
-                answer: answer,
+                waiting: s.left,
+                listened: l.left,
+                answer: stored_answer(s.answer),
             }
         }
     }
@@ -123,23 +115,15 @@ pub fn accept_data(
         (lent_of result.waiting.count result.listened rows.new store.new heard.new) out.new result.answer }
 {
     if packet.address == 0 {
-        let p = release_packet(
-            waiting,
-            &mut *rows,
-            &mut *store,
-            reading,
-            packet,
-            values,
-            &mut *out,
-        );
-        let w = p.waiting;
-        return Accepted {
-            waiting: w,
-            listened: listened,
-            answer: StepAnswer::Released(1, p.bytes),
-        };
+        let p = release_packet(waiting, rows, store, reading, packet, values, out);
+        Accepted {
+            waiting: p.left,
+            listened,
+            answer: StepAnswer::Released(1, p.answer),
+        }
+    } else {
+        hold_packet(
+            waiting, listened, rows, store, heard, settings, reading, packet, values,
+        )
     }
-    hold_packet(
-        waiting, listened, rows, store, heard, settings, reading, packet, values,
-    )
 }

@@ -1,6 +1,6 @@
 -- One law for each return of an arrival.
 -- Assumes nothing.
-use Rattle.std.specs.Prelude.{◌≡◌, refl, true, false, List, [], ◌∷◌, ℕ, ◌≤◌, length}
+use Rattle.std.specs.Prelude.{◌≡◌, refl, true, false, List, [], ◌∷◌, ℕ, ◌≤◌, length, Some, None}
 use Rattle.std.proofs.Math.Path.{sym, ap}
 use Rattle.std.proofs.Common.{◌∙◌, subst, arith, ne_eqb}
 use Rattle.settings.specs.declared.Settings.{Settings}
@@ -30,7 +30,6 @@ use Rattle.pair_tables.specs.declared.PairTable.{PairTable}
 use Rattle.pair_tables.specs.View as tables
 use Rattle.pair_rows.specs.View.{Rows}
 use Rattle.packets.specs.View.{packet_of, data_of}
-use Rattle.arrivals.specs.declared.Short.TheVariants as short
 use Rattle.acceptance.specs.View.{Lent, Accepts}
 use Rattle.arrivals.specs.View.{Counted, counts, rows_of, Arrives, Synchronises, Shortens}
 use Rattle.answers.specs.View.{release_said}
@@ -84,7 +83,7 @@ module _ (S : Settings) (now : ℕ) (d : model.DataPacket) (k k' : Counted) (a :
 module _ (S : Settings) (now : ℕ) (p : DataPacket) (vs : List ℕ) (t : PairTable) (n : ℕ) (pairs sources : Rows) (out : List ℕ) where
   pub shortens : (pairs' : Rows) (out' : List ℕ) (r : ℕ) → p.address ≡ 0 → n ≡ 0
       → ((limit : SourceLimit) → tables.Follows (tables.reading_noted now t) pairs' sources checked.Accepted (check limit S.announce_timeout (data_pair now (packet_of p vs)) (tables.table_of t pairs sources)))
-      → Laid (data_of p now) vs out out' 0 r → Shortens S now (packet_of p vs) t n pairs sources out pairs' out' (short.Released r)
+      → Laid (data_of p now) vs out out' 0 r → Shortens S now (packet_of p vs) t n pairs sources out pairs' out' (Some r)
   shortens pairs' out' r z e f l = record {
     arrives = λ b g m c kw kl.
         let q : r ≡ b = cc in
@@ -95,7 +94,7 @@ module _ (S : Settings) (now : ℕ) (p : DataPacket) (vs : List ℕ) (t : PairTa
     left = λ g. let x : ◌≡◌ {A = ℕ} 0 1 = cc in absurd (omega arith);
   }
 
-  pub shortens_nothing : (pairs' : Rows) → pairs' ≡ pairs → Shortens S now (packet_of p vs) t n pairs sources out pairs' out short.Left
+  pub shortens_nothing : (pairs' : Rows) → pairs' ≡ pairs → Shortens S now (packet_of p vs) t n pairs sources out pairs' out None
   shortens_nothing pairs' e = record {
     arrives = λ b g. let x : ◌≡◌ {A = ℕ} 0 1 = cc in absurd (omega arith);
     left = λ g. (e, refl);

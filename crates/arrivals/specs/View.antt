@@ -1,6 +1,6 @@
 -- What an arriving packet does behind the poll: for every state that has these tables, the model's definition gives what the code leaves and answers.
 -- Assumes nothing.
-use Rattle.std.specs.Prelude.{◌≡◌, List, ℕ}
+use Rattle.std.specs.Prelude.{◌≡◌, List, ℕ, Option, Some, None}
 use Rattle.settings.specs.declared.Settings.{Settings}
 use Rattle.merge.specs.Merge.{Dmx}
 use Rattle.waiting.specs.Records.{records, over}
@@ -17,8 +17,6 @@ use Rattle.model.specs.declared.StepAnswer.TheVariants as says
 use Rattle.model.specs.Packet as model
 use Rattle.model.specs.State.{State}
 use Rattle.model.specs.Step.{with_data, with_sync, with_waiting, with_listened, data_arrival, sync_arrival}
-use Rattle.arrivals.specs.declared.Short.{Short}
-use Rattle.arrivals.specs.declared.Short.TheVariants as short
 use Rattle.acceptance.specs.View.{Lent, waits, hears, Ready}
 
 -- a pair table with its rows
@@ -56,7 +54,7 @@ pub record Synchronises (S : Settings) (now : ℕ) (y : model.SyncPacket) (k : C
   pub lent_waiting : waiting.Lent rows store rows' store'
 
 -- the short way: the packet arrives and is released while nothing waits, whatever waiting rows and listened universes there are, and those stay; or all is left
-pub record Shortens (S : Settings) (now : ℕ) (d : model.DataPacket) (t : PairTable) (n : ℕ) (pairs sources : Rows) (out : List ℕ) (pairs' : Rows) (out' : List ℕ) (answer : Short) : Type 0 where
-  pub arrives : (bytes : ℕ) → answer ≡ short.Released bytes → (m : Lent) → m.count ≡ n → waiting.Kept m.count m.rows m.store → listening.Kept m.listened m.heard
+pub record Shortens (S : Settings) (now : ℕ) (d : model.DataPacket) (t : PairTable) (n : ℕ) (pairs sources : Rows) (out : List ℕ) (pairs' : Rows) (out' : List ℕ) (answer : Option ℕ) : Type 0 where
+  pub arrives : (bytes : ℕ) → answer ≡ Some bytes → (m : Lent) → m.count ≡ n → waiting.Kept m.count m.rows m.store → listening.Kept m.listened m.heard
       → Arrives S now d (rows_of t pairs sources) m out (rows_of (tables.reading_noted now t) pairs' sources) m out' (says.Released 1 bytes)
-  pub left : answer ≡ short.Left → (pairs' ≡ pairs) × (out' ≡ out)
+  pub left : answer ≡ None → (pairs' ≡ pairs) × (out' ≡ out)

@@ -24,14 +24,7 @@ use settings::Settings;
 use waiting_calls::Waiting;
 use waiting_store::{EntryRows, write_record};
 
-// What the short way makes of a data packet: its record's length, or nothing.
-#[derive(Clone, Copy)]
-pub enum Short {
-    Released(usize),
-    Left,
-}
-
-// The commonest packet: address 0, nothing waits, its pair is held and its number follows. Its record is written, and `note_reading` gives the table's header. Otherwise all is left.
+// The commonest packet: address 0, nothing waits, its pair is held and its number follows. Its record is written, and `note_reading` gives the table's header; answers the record's length. Otherwise all is left.
 pub fn release_known(
     data: DataTable,
     waiting: Waiting,
@@ -42,34 +35,30 @@ pub fn release_known(
     packet: DataPacket,
     values: &[u8],
     out: &mut [u8],
-) -> Short
+) -> Option<usize>
     requires { TableKept «data».table pairs.old sources.now × (most_bytes ≤ length out.old) × (length values.now ≤ most_values) }
     ensures { Shortens settings reading (packet_of packet values.now) «data».table waiting.count
         pairs.old sources.now out.old pairs.new out.new result }
 {
-    if packet.address != 0 {
-        return Short::Left;
+    if packet.address != 0 || waiting.count != 0 {
+        return None;
     }
-    if waiting.count != 0 {
-        return Short::Left;
-    }
-    let sequence = packet.sequence;
     if data.renew(
-        &mut *pairs,
+        pairs,
         sources,
         settings.announce_timeout,
         packet.cid,
         packet.universe,
-        sequence,
+        packet.sequence,
         reading,
     ) {
-        let d = dmx_data(packet, reading);
-        let bytes = write_record(&mut *out, 0, d, values);
-        return Short::Released(bytes);
+        Some(write_record(out, 0, dmx_data(packet, reading), values))
+    } else {
+        None
     }
-    Short::Left
 }
 
+// What an arriving data packet leaves, and what the step answers.
 #[derive(Clone, Copy)]
 pub struct DataArrived {
     pub data: DataTable,
@@ -78,6 +67,7 @@ pub struct DataArrived {
     pub answer: StepAnswer,
 }
 
+// The same of a synchronisation packet.
 #[derive(Clone, Copy)]
 pub struct SyncArrived {
     pub sync: SyncTable,
@@ -109,40 +99,33 @@ pub fn arrive_data(
         (rows_of result.«data».table pairs.new sources.new)
         (lent_of result.waiting.count result.listened rows.new store.new heard.new) out.new result.answer }
 {
-    let limit = settings.source_limit;
-    let sequence = packet.sequence;
     let a = data.check_seq_number(
-        &mut *pairs,
-        &mut *sources,
-        limit,
+        pairs,
+        sources,
+        settings.source_limit,
         settings.announce_timeout,
         packet.cid,
         packet.universe,
-        sequence,
+        packet.sequence,
         reading,
     );
-    let next = a.table;
-    let checked = a.answer;
-    if is_accepted(checked) {
+    if is_accepted(a.answer) {
         let r = accept_data(
             waiting, listened, rows, store, heard, settings, reading, packet, values, out,
         );
-        let w = r.waiting;
-        let l = r.listened;
-        let answer = r.answer;
-        return DataArrived {
-            data: next,
-            waiting: w,
-            listened: l,
-            answer: answer,
-        };
-    }
-    let answer = stop_answer(checked);
-    DataArrived {
-        data: next,
-        waiting: waiting,
-        listened: listened,
-        answer: answer,
+        DataArrived {
+            data: a.left,
+            waiting: r.waiting,
+            listened: r.listened,
+            answer: r.answer,
+        }
+    } else {
+        DataArrived {
+            data: a.left,
+            waiting,
+            listened,
+            answer: stop_answer(a.answer),
+        }
     }
 }
 
@@ -167,35 +150,28 @@ pub fn arrive_sync(
         (rows_of result.sync.table pairs.new sources.new)
         result.waiting.count rows.new store.new out.new result.answer }
 {
-    let limit = settings.source_limit;
-    let sequence = packet.sequence;
-    let a = sync.check_seq_number(
-        &mut *pairs,
-        &mut *sources,
-        limit,
+    let s = sync.check_seq_number(
+        pairs,
+        sources,
+        settings.source_limit,
         settings.announce_timeout,
         packet.cid,
         packet.address,
-        sequence,
+        packet.sequence,
         reading,
     );
-    let next = a.table;
-    let said = a.answer;
-    if is_accepted(said) {
+    if is_accepted(s.answer) {
         let r = waiting.rtrv_waiting_data(rows, store, packet.address, reading, out);
-        let w = r.waiting;
-        let told = r.answer;
-        let answer = release_answer(told);
-        return SyncArrived {
-            sync: next,
-            waiting: w,
-            answer: answer,
-        };
-    }
-    let answer = stop_answer(said);
-    SyncArrived {
-        sync: next,
-        waiting: waiting,
-        answer: answer,
+        SyncArrived {
+            sync: s.left,
+            waiting: r.left,
+            answer: release_answer(r.answer),
+        }
+    } else {
+        SyncArrived {
+            sync: s.left,
+            waiting,
+            answer: stop_answer(s.answer),
+        }
     }
 }

@@ -9,11 +9,11 @@ pub returns-then-packet-eq0 : goal.returns-then-packet-eq0
 returns-then-packet-eq0 c =
     let v = c.args in
     accepts_released v.settings v.reading (packet_of v.packet v.values.now) (lent_of v.waiting.count v.listened v.rows.now v.store.now v.heard.now) v.out.now
-    c.release_packet-p.result.waiting.count c.release_packet-p.new.rows c.release_packet-p.new.store c.release_packet-p.new.out c.release_packet-p.result.bytes
+    c.release_packet-p.result.left.count c.release_packet-p.new.rows c.release_packet-p.new.store c.release_packet-p.new.out c.release_packet-p.result.answer
     c.if-packet-eq0.true c.requires.1 c.release_packet-p.ensures
 
-pub returns : goal.returns
-returns c =
+pub returns-else-packet-eq0 : goal.returns-else-packet-eq0
+returns-else-packet-eq0 c =
     let v = c.args in
     accepts_held v.settings v.reading (packet_of v.packet v.values.now) (lent_of v.waiting.count v.listened v.rows.now v.store.now v.heard.now) v.out.now
     (lent_of c.hold_packet.result.waiting.count c.hold_packet.result.listened c.hold_packet.new.rows c.hold_packet.new.store c.hold_packet.new.heard)

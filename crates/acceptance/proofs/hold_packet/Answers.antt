@@ -28,8 +28,8 @@ returns-in-Listening c =
     let v = c.args in
     let m = lent_of v.waiting.count v.listened v.rows.now v.store.now v.heard.now in
     let p = packet_of v.packet v.values.now in
-    let k : StoreCalled m.count m.rows m.store v.settings.merge (model.dmx v.reading p) c.store_waiting_data-s.new.rows c.store_waiting_data-s.new.store c.store_waiting_data-s.result.waiting.count c.store_waiting_data-s.result.answer =
-    subst (λ (x : DmxData). StoreCalled m.count m.rows m.store v.settings.merge (dmx x v.values.now) c.store_waiting_data-s.new.rows c.store_waiting_data-s.new.store c.store_waiting_data-s.result.waiting.count c.store_waiting_data-s.result.answer) c.dmx_data-d.ensures c.store_waiting_data-s.ensures in
+    let k : StoreCalled m.count m.rows m.store v.settings.merge (model.dmx v.reading p) c.store_waiting_data-s.new.rows c.store_waiting_data-s.new.store c.store_waiting_data-s.result.left.count c.store_waiting_data-s.result.answer =
+    subst (λ (x : DmxData). StoreCalled m.count m.rows m.store v.settings.merge (dmx x v.values.now) c.store_waiting_data-s.new.rows c.store_waiting_data-s.new.store c.store_waiting_data-s.result.left.count c.store_waiting_data-s.result.answer) c.dmx_data.ensures c.store_waiting_data-s.ensures in
     let g = holds_called v.settings v.reading p m c.requires.0 c.listen_universe-l.result c.listen_universe-l.new.rows c.listen_universe-l.ensures
-    c.store_waiting_data-s.result.waiting.count c.store_waiting_data-s.new.rows c.store_waiting_data-s.new.store c.store_waiting_data-s.result.answer c.in-Listening.is c.requires.2 k in
-    subst (λ (a : StepAnswer). Holds v.settings v.reading p m (lent_of c.store_waiting_data-s.result.waiting.count c.listen_universe-l.result.listened c.store_waiting_data-s.new.rows c.store_waiting_data-s.new.store c.listen_universe-l.new.rows) a) (sym c.stored_answer-answer.ensures.answer) g
+    c.store_waiting_data-s.result.left.count c.store_waiting_data-s.new.rows c.store_waiting_data-s.new.store c.store_waiting_data-s.result.answer c.in-Listening.is c.requires.2 k in
+    subst (λ (a : StepAnswer). Holds v.settings v.reading p m (lent_of c.store_waiting_data-s.result.left.count c.listen_universe-l.result.left c.store_waiting_data-s.new.rows c.store_waiting_data-s.new.store c.listen_universe-l.new.rows) a) (sym c.stored_answer.ensures.answer) g
