@@ -9,4 +9,4 @@ use Rattle.waiting_store.proofs.any_dropped.Goals as goal
 pub returns : goal.returns
 returns g c = λ t computes.
     any_from_yields_List (λ row. not (t (head_of row))) _ _ _ c.any.ensures.ran
-    (YieldsList-from_slice (take c.args.n c.args.rows.now) cc) (λ x b q k. search (rules, tests))
+    (YieldsList-from_slice (take c.args.n c.args.rows.now) cc) (λ x b q k. (search (rules, tests), search (rules, tests)))
