@@ -3,7 +3,7 @@
 use Rattle.std.specs.Prelude.{◌≡◌, true, false, ◌&&◌, List, [], ◌∷◌, ◌++◌, ℕ, zero, suc, ◌+◌, ◌≤◌, ◌<◌, max, eqb, length, take, get_or, set}
 use Rattle.std.proofs.Math.Path.{refl, ap}
 use Rattle.std.proofs.Common.{sym, ◌∙◌, subst, arith, add-one, zero-add, take-append-drop, length-take-le}
-use Rattle.std.proofs.Math.Option.{none, some}
+use Rattle.std.specs.Prelude.{Some, None}
 use Rattle.std.proofs.Math.ListN.{drop}
 use Rattle.std.proofs.Math.Seq.{paste, paste-suc}
 use borrow.Author.Tests.{lt-ltb, le-ltb, eq-eqb, ne_eqb}
@@ -99,15 +99,15 @@ module _ (e p : Dmx) where
           cc (mergeable_first)
 
   -- ── the choice by priority ──
-  pub choice_long : {n : ℕ} → too_long e.values p.values ≡ some n → TooLong n ≡ choice e p
+  pub choice_long : {n : ℕ} → too_long e.values p.values ≡ Some n → TooLong n ≡ choice e p
   unfolding choice
   choice_long h = cc
 
-  pub choice_older : too_long e.values p.values ≡ none → p.head.priority < e.head.priority → Older ≡ choice e p
+  pub choice_older : too_long e.values p.values ≡ None → p.head.priority < e.head.priority → Older ≡ choice e p
   unfolding choice
   choice_older h l = let f = lt-ltb p.head.priority e.head.priority l in cc
 
-  pub choice_newer : too_long e.values p.values ≡ none → e.head.priority ≤ p.head.priority → Newer ≡ choice e p
+  pub choice_newer : too_long e.values p.values ≡ None → e.head.priority ≤ p.head.priority → Newer ≡ choice e p
   unfolding choice
   choice_newer h l = let f = le-ltb p.head.priority e.head.priority l in cc
 
@@ -118,11 +118,11 @@ module _ (e p : Dmx) where
     pub outputs : out' ≡ htp_output r e p out
 
   module _ (out : List ℕ) where
-    pub htp_long : {n : ℕ} → too_long e.values p.values ≡ some n → Answered out (htp.TooLong n) out
+    pub htp_long : {n : ℕ} → too_long e.values p.values ≡ Some n → Answered out (htp.TooLong n) out
     unfolding htp_answer htp_output
     htp_long h = record { answers = cc; outputs = refl }
 
-    module _ (t : too_long e.values p.values ≡ none) where
+    module _ (t : too_long e.values p.values ≡ None) where
       pub htp_refused : mergeable e p ≡ false → Answered out htp.Refused out
       unfolding htp_answer htp_output htp_merge htp_with
       htp_refused h = record { answers = cc; outputs = refl }
