@@ -6,6 +6,7 @@ use Rattle.std.proofs.Math.Option.{Option, none, some}
 use mathlib.Core.List.{List}
 use Prim.Native.Nat.{ℕ, ◌≤◌}
 use Rattle.laws.specs.Cases.{split, clash}
+use Rattle.laws.specs.declared.After.{After}
 use Rattle.rules.specs.declared.Cid.{Cid}
 use Rattle.rules.specs.Universe.{legal}
 use Rattle.settings.specs.declared.Settings.{Settings}
@@ -21,8 +22,6 @@ use Rattle.waiting.specs.Waiting.{cleared}
 use Rattle.waiting_store.specs.Entries.{waiting_of, lent_none}
 use Rattle.waiting_calls.specs.Calls.{Yields, Empty}
 use Rattle.listening.specs.declared.Listened.{Listened}
-use Rattle.listening.specs.declared.ListenDone.{ListenDone}
-use Rattle.listening.specs.declared.MuteDone.{MuteDone}
 use Rattle.listening.specs.View.{listened_of, Listens, Mutes, Fresh}
 use Rattle.listening.specs.View as listening
 use Rattle.discovery_calls.specs.declared.Discovery.{Discovery}
@@ -179,29 +178,29 @@ module _ (r : Receiver) (m : Memory) (k : listening.Kept r.listened m.heard) whe
       let f = same_count r.listened l m.heard k (rw e at k') (sym (ap (listened_of l) e) ∙ v) in
       ((λ i. record { sequences = r.sequences; waiting = r.waiting; listened = f i; discovery = r.discovery }), (λ i. with_listened_rows (e i) m))
 
-  pub does_listen : (us : List ℕ) (a : ListenDone) (heard : List ℕ) → Listens us r.listened m.heard a heard
-      → Does (listen_call us) listen_number r m (record { sequences = r.sequences; waiting = r.waiting; listened = a.listened; discovery = r.discovery }) (with_listened_rows heard m) a.answer
+  pub does_listen : (us : List ℕ) (a : After Listened ListenAnswer) (heard : List ℕ) → Listens us r.listened m.heard a heard
+      → Does (listen_call us) listen_number r m (record { sequences = r.sequences; waiting = r.waiting; listened = a.left; discovery = r.discovery }) (with_listened_rows heard m) a.answer
   unfolding listen_call
   does_listen us a heard l = record {
     outcome_is = λ i. (with_listened (sym l.view i).0 (state_of r m), (sym l.view i).1);
     kept = λ x. record { kept_sequences = x.kept_sequences; kept_waiting = x.kept_waiting; kept_listened = l.kept; kept_discovery = x.kept_discovery };
     all_left = λ f.
         let n : a.answer ≢ listen.Listening = λ e. clash f (ap (λ (x : ListenAnswer). leaves_all (listen_number x)) e) in
-        left_all a.listened heard (l.refused n) l.kept
+        left_all a.left heard (l.refused n) l.kept
         (ap (λ (x : List ℕ × ListenAnswer). x.0) l.view ∙ refused_list us (listened_of r.listened m.heard) (λ e. n (ap (λ (x : List ℕ × ListenAnswer). x.1) l.view ∙ e)));
     lent_waiting = lent_none m.rows m.store;
     lent_pages = pool.lent_none m.universes;
   }
 
-  pub does_mute : (u : ℕ) (a : MuteDone) (heard : List ℕ) → Mutes u r.listened m.heard a heard
-      → Does (mute_call u) mute_number r m (record { sequences = r.sequences; waiting = r.waiting; listened = a.listened; discovery = r.discovery }) (with_listened_rows heard m) a.answer
+  pub does_mute : (u : ℕ) (a : After Listened MuteAnswer) (heard : List ℕ) → Mutes u r.listened m.heard a heard
+      → Does (mute_call u) mute_number r m (record { sequences = r.sequences; waiting = r.waiting; listened = a.left; discovery = r.discovery }) (with_listened_rows heard m) a.answer
   unfolding mute_call
   does_mute u a heard l = record {
     outcome_is = λ i. (with_listened (sym l.view i).0 (state_of r m), (sym l.view i).1);
     kept = λ x. record { kept_sequences = x.kept_sequences; kept_waiting = x.kept_waiting; kept_listened = l.kept; kept_discovery = x.kept_discovery };
     all_left = λ f.
         let n : a.answer ≢ muting.Muted = λ e. clash f (ap (λ (x : MuteAnswer). leaves_all (mute_number x)) e) in
-        left_all a.listened heard (l.refused n) l.kept
+        left_all a.left heard (l.refused n) l.kept
         (ap (λ (x : List ℕ × MuteAnswer). x.0) l.view ∙ muted_refused u (listened_of r.listened m.heard) (λ e. n (ap (λ (x : List ℕ × MuteAnswer). x.1) l.view ∙ e)));
     lent_waiting = lent_none m.rows m.store;
     lent_pages = pool.lent_none m.universes;

@@ -4,8 +4,7 @@
 use Rattle.std.specs.Prelude.{List, ℕ}
 use Rattle.std.specs.Borrow.{Bor, MutBor}
 use denote.Triple.Both.{Both}
-use Rattle.laws.specs.Lent as shared
-use Rattle.pair_tables.specs.Promises.{Part}
+use Rattle.laws.specs.Lent.{Part, SharedPart}
 use Rattle.pair_rows.specs.View.{Rows}
 use Rattle.sequences.specs.Promises.{sequence_rows_in}
 use Rattle.receiver.specs.View.{Memory, memory, with_sequence_rows, with_data_rows, with_sync_rows, with_waiting_rows, with_listened_rows, with_discovery_rows}
@@ -43,21 +42,21 @@ lent dp ds sp ss rows store heard sources names pages universes = record {
 }
 
 -- the same where discovery's sources and their names are lent shared, as to a data packet
-abbrev pub data_packet_lent : Part Rows → Part Rows → Part Rows → Part Rows → Part Rows → Part (List ℕ) → Part (List ℕ) → shared.Part Rows → shared.Part Rows → Part Rows → Part (List ℕ) → Lent
+abbrev pub data_packet_lent : Part Rows → Part Rows → Part Rows → Part Rows → Part Rows → Part (List ℕ) → Part (List ℕ) → SharedPart Rows → SharedPart Rows → Part Rows → Part (List ℕ) → Lent
 data_packet_lent dp ds sp ss rows store heard sources names pages universes = record {
   entry = data_packet_lent_in dp.entry ds.entry sp.entry ss.entry rows.entry store.entry heard.entry sources.entry names.entry pages.entry universes.entry;
   exit = data_packet_lent_in dp.exit ds.exit sp.exit ss.exit rows.exit store.exit heard.exit sources.exit names.exit pages.exit universes.exit;
 }
 
 -- the same where the listened universes and discovery are lent shared, as to a synchronisation packet
-abbrev pub sync_packet_lent : Part Rows → Part Rows → Part Rows → Part Rows → Part Rows → Part (List ℕ) → shared.Part (List ℕ) → shared.Part Rows → shared.Part Rows → shared.Part Rows → shared.Part (List ℕ) → Lent
+abbrev pub sync_packet_lent : Part Rows → Part Rows → Part Rows → Part Rows → Part Rows → Part (List ℕ) → SharedPart (List ℕ) → SharedPart Rows → SharedPart Rows → SharedPart Rows → SharedPart (List ℕ) → Lent
 sync_packet_lent dp ds sp ss rows store heard sources names pages universes = record {
   entry = sync_packet_lent_in dp.entry ds.entry sp.entry ss.entry rows.entry store.entry heard.entry sources.entry names.entry pages.entry universes.entry;
   exit = sync_packet_lent_in dp.exit ds.exit sp.exit ss.exit rows.exit store.exit heard.exit sources.exit names.exit pages.exit universes.exit;
 }
 
 -- the same where the listened universes are lent shared, as to a discovery packet
-abbrev pub discovery_packet_lent : Part Rows → Part Rows → Part Rows → Part Rows → Part Rows → Part (List ℕ) → shared.Part (List ℕ) → Part Rows → Part Rows → Part Rows → Part (List ℕ) → Lent
+abbrev pub discovery_packet_lent : Part Rows → Part Rows → Part Rows → Part Rows → Part Rows → Part (List ℕ) → SharedPart (List ℕ) → Part Rows → Part Rows → Part Rows → Part (List ℕ) → Lent
 discovery_packet_lent dp ds sp ss rows store heard sources names pages universes = record {
   entry = discovery_packet_lent_in dp.entry ds.entry sp.entry ss.entry rows.entry store.entry heard.entry sources.entry names.entry pages.entry universes.entry;
   exit = discovery_packet_lent_in dp.exit ds.exit sp.exit ss.exit rows.exit store.exit heard.exit sources.exit names.exit pages.exit universes.exit;
@@ -71,7 +70,7 @@ sequences_lent dp ds sp ss m = record {
 }
 
 -- the data pairs, with their sources lent shared
-abbrev pub data_lent : Part Rows → shared.Part Rows → Lent → Lent
+abbrev pub data_lent : Part Rows → SharedPart Rows → Lent → Lent
 data_lent dp ds m = record {
   entry = with_data_rows dp.entry.now ds.entry.now m.entry;
   exit = with_data_rows dp.exit.now ds.exit.now m.exit;
@@ -96,7 +95,7 @@ listened_lent heard m = record {
 }
 
 -- the same where they are lent shared
-abbrev pub listened_lent_shared : shared.Part (List ℕ) → Lent → Lent
+abbrev pub listened_lent_shared : SharedPart (List ℕ) → Lent → Lent
 listened_lent_shared heard m = record {
   entry = with_listened_rows heard.entry.now m.entry;
   exit = with_listened_rows heard.exit.now m.exit;
@@ -109,7 +108,7 @@ discovery_lent sources names pages universes m = record {
 }
 
 -- the same where the sources and their names are lent shared
-abbrev pub discovery_lent_sources_shared : shared.Part Rows → shared.Part Rows → Part Rows → Part (List ℕ) → Lent → Lent
+abbrev pub discovery_lent_sources_shared : SharedPart Rows → SharedPart Rows → Part Rows → Part (List ℕ) → Lent → Lent
 discovery_lent_sources_shared sources names pages universes m = record {
   entry = with_discovery_rows sources.entry.now names.entry.now pages.entry.now universes.entry.now m.entry;
   exit = with_discovery_rows sources.exit.now names.exit.now pages.exit.now universes.exit.now m.exit;

@@ -94,7 +94,7 @@ space_in m out = space_of out m.store m.universes
 -- the receiver with a data pair of this reading in its rows
 abbrev pub reading_noted : ℕ → Receiver → Receiver
 reading_noted now r = record {
-  sequences = record { «data» = record { table = tables.reading_noted now r.sequences.«data».table }; sync = r.sequences.sync };
+  sequences = record { «data» = record r.sequences.«data» { table = tables.reading_noted now r.sequences.«data».table }; sync = r.sequences.sync };
   waiting = r.waiting;
   listened = r.listened;
   discovery = r.discovery;

@@ -17,7 +17,8 @@ ghost use Rattle.model.specs.Step.{most_listened};
 
 use discovery_calls::Discovery;
 use discovery_rows::{HeadRows, NameRows, PageRows};
-use lengths::{Measured, test_page_store, test_waiting_store};
+use laws::After;
+use lengths::{LengthError, test_page_store, test_waiting_store};
 use listening::{Listened, ListenedUniverses};
 use model::{ClearAnswer, ExpiryAnswer, ListenAnswer, MuteAnswer, PollAnswer};
 use pair_rows::{PairRows, SourceRows};
@@ -37,52 +38,16 @@ pub struct Receiver {
     pub discovery: Discovery,
 }
 
-// What each further call leaves and answers.
-#[derive(Clone, Copy)]
-pub struct AfterPoll {
-    pub receiver: Receiver,
-    pub answer: PollAnswer,
-}
-
-#[derive(Clone, Copy)]
-pub struct AfterExpiry {
-    pub receiver: Receiver,
-    pub answer: ExpiryAnswer,
-}
-
-#[derive(Clone, Copy)]
-pub struct AfterListen {
-    pub receiver: Receiver,
-    pub answer: ListenAnswer,
-}
-
-#[derive(Clone, Copy)]
-pub struct AfterMute {
-    pub receiver: Receiver,
-    pub answer: MuteAnswer,
-}
-
-#[derive(Clone, Copy)]
-pub struct AfterClear {
-    pub receiver: Receiver,
-    pub answer: ClearAnswer,
-}
-
 impl Receiver {
     // A fresh receiver; but for the listened universes the memory lent later may hold anything.
     pub fn new(heard: &mut ListenedUniverses) -> Receiver
-        requires { length heard.old ≡ most_listened }
         ensures { (m : Memory) → Begins result (with_listened_rows heard.new m) }
     {
-        let sequences = SequenceNumbering::new();
-        let waiting = Waiting::new();
-        let listened = Listened::new(heard);
-        let discovery = Discovery::new();
         Receiver {
-            sequences,
-            waiting,
-            listened,
-            discovery,
+            sequences: SequenceNumbering::new(),
+            waiting: Waiting::new(),
+            listened: Listened::new(heard),
+            discovery: Discovery::new(),
         }
     }
 
@@ -97,32 +62,28 @@ impl Receiver {
         store: &mut [u8],
         settings: Settings,
         reading: u64,
-    ) -> AfterPoll
+    ) -> After<Receiver, PollAnswer>
         requires sequences { sequences.Kept self.sequences (sequence_rows_in data_pairs data_sources sync_pairs sync_sources) }
         requires waiting { KeptWaiting self.waiting.count rows.old store.old }
         ensures { (rest : Memory) →
             let m = sequences_lent data_pairs data_sources sync_pairs sync_sources (waiting_lent rows store (untouched rest)) in
-            Does (poll_call (length store.old) settings reading) poll_number self m.entry result.receiver m.exit result.answer }
+            Does (poll_call (length store.old) settings reading) poll_number self m.entry result.left m.exit result.answer }
     {
-        if let Measured::TooShort(needed) = test_waiting_store(&*store) {
-            return AfterPoll {
-                receiver: self,
+        if let Err(LengthError::TooShort(needed)) = test_waiting_store(store) {
+            return After {
+                left: self,
                 answer: PollAnswer::TooShort(needed),
             };
         }
-        let q = self.sequences;
-        let w = self.waiting;
-        if is_idle(q, w, settings, reading) {
-            return AfterPoll {
-                receiver: self,
+        if is_idle(self.sequences, self.waiting, settings, reading) {
+            return After {
+                left: self,
                 answer: PollAnswer::Polled,
             };
         }
-        let listened = self.listened;
-        let discovery = self.discovery;
         let p = poll(
-            q,
-            w,
+            self.sequences,
+            self.waiting,
             data_pairs,
             data_sources,
             sync_pairs,
@@ -132,24 +93,20 @@ impl Receiver {
             settings,
             reading,
         );
-        let sequences = p.sequences;
-        let waiting = p.waiting;
-        let said = p.answer;
-        let receiver = Receiver {
-            sequences,
-            waiting,
-            listened,
-            discovery,
+        let left = Receiver {
+            sequences: p.sequences,
+            waiting: p.waiting,
+            ..self
         };
-        let SweepAnswer::TimedOut(cid, universe) = said else {
-            return AfterPoll {
-                receiver: receiver,
+        match p.answer {
+            SweepAnswer::Quiet => After {
+                left,
                 answer: PollAnswer::Polled,
-            };
-        };
-        AfterPoll {
-            receiver: receiver,
-            answer: PollAnswer::UniverseTimeout(cid, universe),
+            },
+            SweepAnswer::TimedOut(cid, universe) => After {
+                left,
+                answer: PollAnswer::UniverseTimeout(cid, universe),
+            },
         }
     }
 
@@ -157,19 +114,12 @@ impl Receiver {
     pub fn note_reading(self, reading: u64) -> Receiver
         ensures { result ≡ reading_noted reading self }
     {
-        let q = self.sequences;
-        let waiting = self.waiting;
-        let listened = self.listened;
-        let discovery = self.discovery;
-        let d = q.data;
-        let sync = q.sync;
-        let data = d.note_reading(reading);
-        let sequences = SequenceNumbering { data, sync };
         Receiver {
-            sequences,
-            waiting,
-            listened,
-            discovery,
+            sequences: SequenceNumbering {
+                data: self.sequences.data.note_reading(reading),
+                ..self.sequences
+            },
+            ..self
         }
     }
 
@@ -182,32 +132,28 @@ impl Receiver {
         universes: &mut [u16],
         settings: Settings,
         reading: u64,
-    ) -> AfterExpiry
+    ) -> After<Receiver, ExpiryAnswer>
         requires { KeptDiscovery self.discovery sources.old names.old pages.old universes.old }
         ensures { (rest : Memory) →
             let m = discovery_lent sources names pages universes (untouched rest) in
-            Does (expiry_call (bytes universes.old) settings reading) expiry_number self m.entry result.receiver m.exit result.answer }
+            Does (expiry_call (bytes universes.old) settings reading) expiry_number self m.entry result.left m.exit result.answer }
     {
-        if let Measured::TooShort(needed) = test_page_store(&*universes) {
-            return AfterExpiry {
-                receiver: self,
+        if let Err(LengthError::TooShort(needed)) = test_page_store(universes) {
+            return After {
+                left: self,
                 answer: ExpiryAnswer::TooShort(needed),
             };
         }
-        let sequences = self.sequences;
-        let waiting = self.waiting;
-        let listened = self.listened;
-        let d = self.discovery;
-        let time = settings.discovery_expiry as u64;
-        let discovery = d.remove_expired_sources(sources, names, pages, universes, time, reading);
-        let receiver = Receiver {
-            sequences,
-            waiting,
-            listened,
-            discovery,
-        };
-        AfterExpiry {
-            receiver: receiver,
+        let discovery = self.discovery.remove_expired_sources(
+            sources,
+            names,
+            pages,
+            universes,
+            u64::from(settings.discovery_expiry),
+            reading,
+        );
+        After {
+            left: Receiver { discovery, ..self },
             answer: ExpiryAnswer::Swept,
         }
     }
@@ -216,54 +162,49 @@ impl Receiver {
         requires { listening.Kept self.listened heard.now }
         ensures { (m : Memory) → result ≡ listens universe (state_of self (with_listened_rows heard.now m)).listened }
     {
-        let l = self.listened;
-        l.is_listening(heard, universe)
+        self.listened.is_listening(heard, universe)
     }
 
     // All are tested for 2 before any is added, then for 11.
-    pub fn listen_universes(self, heard: &mut ListenedUniverses, universes: &[u16]) -> AfterListen
+    pub fn listen_universes(
+        self,
+        heard: &mut ListenedUniverses,
+        universes: &[u16],
+    ) -> After<Receiver, ListenAnswer>
         requires { listening.Kept self.listened heard.old }
         ensures { (rest : Memory) →
             let m = listened_lent heard (untouched rest) in
-            Does (listen_call universes.now) listen_number self m.entry result.receiver m.exit result.answer }
+            Does (listen_call universes.now) listen_number self m.entry result.left m.exit result.answer }
     {
-        let sequences = self.sequences;
-        let waiting = self.waiting;
-        let l = self.listened;
-        let discovery = self.discovery;
-        let a = l.listen_universes(heard, universes);
-        let listened = a.listened;
-        let answer = a.answer;
-        let receiver = Receiver {
-            sequences,
-            waiting,
-            listened,
-            discovery,
-        };
-        AfterListen { receiver, answer }
+        let a = self.listened.listen_universes(heard, universes);
+        After {
+            left: Receiver {
+                listened: a.left,
+                ..self
+            },
+            answer: a.answer,
+        }
     }
 
     // 2, then 3.
-    pub fn mute_universe(self, heard: &mut ListenedUniverses, universe: u16) -> AfterMute
+    pub fn mute_universe(
+        self,
+        heard: &mut ListenedUniverses,
+        universe: u16,
+    ) -> After<Receiver, MuteAnswer>
         requires { listening.Kept self.listened heard.old }
         ensures { (rest : Memory) →
             let m = listened_lent heard (untouched rest) in
-            Does (mute_call universe) mute_number self m.entry result.receiver m.exit result.answer }
+            Does (mute_call universe) mute_number self m.entry result.left m.exit result.answer }
     {
-        let sequences = self.sequences;
-        let waiting = self.waiting;
-        let l = self.listened;
-        let discovery = self.discovery;
-        let a = l.mute_universe(heard, universe);
-        let listened = a.listened;
-        let answer = a.answer;
-        let receiver = Receiver {
-            sequences,
-            waiting,
-            listened,
-            discovery,
-        };
-        AfterMute { receiver, answer }
+        let a = self.listened.mute_universe(heard, universe);
+        After {
+            left: Receiver {
+                listened: a.left,
+                ..self
+            },
+            answer: a.answer,
+        }
     }
 
     // Answers whether the universe had waiting data.
@@ -272,33 +213,25 @@ impl Receiver {
         rows: &mut EntryRows,
         store: &mut [u8],
         universe: u16,
-    ) -> AfterClear
+    ) -> After<Receiver, ClearAnswer>
         requires { KeptWaiting self.waiting.count rows.old store.old }
         ensures { (rest : Memory) →
             let m = waiting_lent rows store (untouched rest) in
-            Does (clear_call (length store.old) universe) clear_number self m.entry result.receiver m.exit result.answer }
+            Does (clear_call (length store.old) universe) clear_number self m.entry result.left m.exit result.answer }
     {
-        if let Measured::TooShort(needed) = test_waiting_store(&*store) {
-            return AfterClear {
-                receiver: self,
+        if let Err(LengthError::TooShort(needed)) = test_waiting_store(store) {
+            return After {
+                left: self,
                 answer: ClearAnswer::TooShort(needed),
             };
         }
-        let sequences = self.sequences;
-        let w = self.waiting;
-        let listened = self.listened;
-        let discovery = self.discovery;
-        let c = w.clear_waiting_data(rows, store, universe);
-        let waiting = c.waiting;
-        let receiver = Receiver {
-            sequences,
-            waiting,
-            listened,
-            discovery,
-        };
-        AfterClear {
-            receiver: receiver,
-            answer: ClearAnswer::Cleared(c.held),
+        let c = self.waiting.clear_waiting_data(rows, store, universe);
+        After {
+            left: Receiver {
+                waiting: c.left,
+                ..self
+            },
+            answer: ClearAnswer::Cleared(c.answer),
         }
     }
 
@@ -306,16 +239,9 @@ impl Receiver {
     pub fn clear_all_waiting_data(self) -> Receiver
         ensures { (m : Memory) → Becomes clear_all_call self result m }
     {
-        let sequences = self.sequences;
-        let w = self.waiting;
-        let listened = self.listened;
-        let discovery = self.discovery;
-        let waiting = w.clear_all_waiting_data();
         Receiver {
-            sequences,
-            waiting,
-            listened,
-            discovery,
+            waiting: self.waiting.clear_all_waiting_data(),
+            ..self
         }
     }
 
@@ -323,16 +249,9 @@ impl Receiver {
     pub fn reset_pairs(self) -> Receiver
         ensures { (m : Memory) → Becomes reset_pairs_call self result m }
     {
-        let q = self.sequences;
-        let waiting = self.waiting;
-        let listened = self.listened;
-        let discovery = self.discovery;
-        let sequences = q.clear();
         Receiver {
-            sequences,
-            waiting,
-            listened,
-            discovery,
+            sequences: self.sequences.clear(),
+            ..self
         }
     }
 
@@ -340,16 +259,9 @@ impl Receiver {
     pub fn reset_discovery(self) -> Receiver
         ensures { (m : Memory) → Becomes reset_discovery_call self result m }
     {
-        let sequences = self.sequences;
-        let waiting = self.waiting;
-        let listened = self.listened;
-        let d = self.discovery;
-        let discovery = d.clear();
         Receiver {
-            sequences,
-            waiting,
-            listened,
-            discovery,
+            discovery: self.discovery.clear(),
+            ..self
         }
     }
 
@@ -357,7 +269,6 @@ impl Receiver {
     pub fn reset_sources(self) -> Receiver
         ensures { (m : Memory) → Becomes reset_call self result m }
     {
-        let pairless = self.reset_pairs();
-        pairless.reset_discovery()
+        self.reset_pairs().reset_discovery()
     }
 }

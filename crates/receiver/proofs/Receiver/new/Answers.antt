@@ -6,4 +6,4 @@ use Rattle.receiver.proofs.Receiver.new.Goals as goal
 
 pub returns : goal.returns
 returns c m =
-    begins c.new-sequences.result c.new-waiting.result c.new-listened.result c.new-discovery.result (with_listened_rows c.new-listened.new.rows m) c.new-sequences.ensures c.new-waiting.ensures c.new-listened.ensures c.new-discovery.ensures
+    begins c.new.result c.new-2.result c.new-3.result c.new-4.result (with_listened_rows c.new-3.new.rows m) c.new.ensures c.new-2.ensures c.new-3.ensures c.new-4.ensures

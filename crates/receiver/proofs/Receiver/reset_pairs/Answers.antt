@@ -4,4 +4,4 @@ use Rattle.receiver.specs.Further.{resets_pairs}
 use Rattle.receiver.proofs.Receiver.reset_pairs.Goals as goal
 
 pub returns : goal.returns
-returns c m = resets_pairs c.args.self c.clear-sequences.result m c.clear-sequences.ensures
+returns c m = resets_pairs c.args.self c.clear.result m c.clear.ensures

@@ -4,4 +4,4 @@ use Rattle.receiver.specs.Further.{resets}
 use Rattle.receiver.proofs.Receiver.reset_sources.Goals as goal
 
 pub returns : goal.returns
-returns c m = resets c.args.self c.reset_pairs-pairless.result c.reset_discovery.result m (c.reset_pairs-pairless.ensures m) (c.reset_discovery.ensures m)
+returns c m = resets c.args.self c.reset_pairs.result c.reset_discovery.result m (c.reset_pairs.ensures m) (c.reset_discovery.ensures m)
