@@ -42,6 +42,8 @@ pub struct Page<'a> {
     pub list: &'a [u16],
 }
 
+// The lent parts stand one by one. As a struct of `&mut` each function would have to promise that the references stay, and the length of
+// an array behind a field is not known after a call that changes it: `list_source` did not prove in five ways.
 impl Discovery {
     // The source of this mark goes, with its pages. It stands nowhere before place from.
     // Its mark is a number, as it is a word of the lent rows.
