@@ -48,7 +48,7 @@ pub two : (w : ℕ) → big_endian 2 w ≡ w / 256 % 256 ∷ w % 256 ∷ []
 unfolding big_endian
 two w = simp div-one
 
-one : (w : ℕ) → big_endian 1 w ≡ w % 256 ∷ []
+pub one : (w : ℕ) → big_endian 1 w ≡ w % 256 ∷ []
 unfolding big_endian
 one w = simp div-one
 
