@@ -1,43 +1,23 @@
 -- One law for each return of the opening, and what it leaves for the packet.
 -- Assumes nothing.
-use Rattle.std.specs.Prelude.{◌≡◌, Bool, true, false, List, ℕ, ◌+◌, ◌≤◌, length}
-use Rattle.std.proofs.Math.Path.{refl, ap}
-use Rattle.std.proofs.Common.{sym, ◌∙◌, arith}
-use Rattle.std.proofs.Math.Option.{Option, none, some}
-use Rattle.laws.specs.Cases.{clash, missing}
-use Rattle.rules.specs.declared.Cid.{Cid}
-use Rattle.rules.specs.Answer.{Value, first_of}
+use Rattle.std.specs.Prelude.{◌≡◌, Bool, false, List, ℕ, ◌+◌, ◌≤◌, length}
+use Rattle.std.proofs.Math.Path.{ap}
+use Rattle.std.proofs.Common.{arith}
+use Rattle.std.proofs.Math.Option.{Option, none}
 use Rattle.settings.specs.declared.Settings.{Settings}
-use Rattle.pairs.specs.Answers.{answer_of, sweep_number_of, sweep_values_of}
-use Rattle.pair_rows.specs.View.{Rows}
-use Rattle.pairs.specs.Table.{Key, key}
-use Rattle.pairs.specs.declared.SweepAnswer.{SweepAnswer}
-use Rattle.pairs.specs.declared.SweepAnswer.TheVariants.{Quiet, TimedOut}
-use Rattle.sequences.specs.declared.SequenceNumbering.{SequenceNumbering}
-use Rattle.sequences.specs.View as sequences
-use Rattle.sequences.proofs.Laws.{answer_some, answer_none}
-use Rattle.waiting_calls.specs.declared.Waiting.{Waiting}
 use Rattle.waiting.specs.Records.{most_bytes}
 use Rattle.waiting.specs.Waiting.{store_length}
 use Rattle.waiting_store.specs.Entries.{lent_none}
 use Rattle.waiting_store.specs.Entries as waiting
 use Rattle.discovery_calls.specs.View as discovery
-use Rattle.discovery_pages.specs.Lent as pool
 use Rattle.lengths.specs.Space.{space_of}
 use Rattle.model.specs.declared.StepAnswer.{StepAnswer}
-use Rattle.model.specs.declared.StepAnswer.TheVariants as says
-use Rattle.model.specs.Packet.{Packet, too_long}
-use Rattle.model.specs.State.{State}
-use Rattle.model.specs.Step as model
-use Rattle.model.specs.Step.{Space, outcome, too_short, page_bytes, poll, polled, step}
+use Rattle.model.specs.Step.{too_short, page_bytes}
 use Rattle.lengths.specs.Finds.{room_for, first_none}
 use Rattle.receiver.specs.declared.Receiver.{Receiver}
-use Rattle.receiver.specs.Further.{polled_kept}
 use Rattle.discovery.specs.Discovery.{pool_length}
-use Rattle.receiver.specs.View.{Memory, sequences_in, with_sequence_rows, with_waiting_rows, state_of, space_in, KeptWaiting, Kept}
-use Rattle.timeouts.specs.View.{Polls, idle}
-use Rattle.timeouts.specs.Laws.{polls_idle}
-use Rattle.opening.specs.View.{opening, Opens}
+use Rattle.receiver.specs.View.{Memory, Kept}
+use Rattle.opening.specs.View.{Opens}
 
 -- ── lengths ──
 pub record Long (out store universes : List ℕ) : Type 0 where

@@ -10,9 +10,10 @@ ghost use Rattle.sequences.specs.Promises.{sequence_rows_in};
 ghost use Rattle.receiver.specs.Promises.{sequences_lent, waiting_lent};
 ghost use Rattle.lengths.specs.Finds.{long_of};
 ghost use Rattle.lengths.specs.Space.{space_of};
-ghost use Rattle.opening.specs.View.{Opens, Ready};
+ghost use Rattle.opening.specs.View.{next_of, stops, answer_of_opening, Opens, Ready};
 
-use lengths::{Measured, test_space};
+use laws::After;
+use lengths::{LengthError, test_space};
 use model::StepAnswer;
 use pair_rows::{PairRows, SourceRows};
 use pairs::SweepAnswer;
@@ -21,15 +22,7 @@ use settings::Settings;
 use timeouts::{is_idle, poll};
 use waiting_store::EntryRows;
 
-// What lengths and poll leave, and whether they end the step.
-#[derive(Clone, Copy)]
-pub struct Opened {
-    pub receiver: Receiver,
-    pub stopped: bool,
-    pub answer: StepAnswer,
-}
-
-// 1 and 2 of a step: lent memory, the packet's own parts, then the poll.
+// 1 and 2 of a step: lent memory, the packet's own parts, then the poll. The step goes on with what is left, or ends with an answer.
 pub fn open(
     receiver: Receiver,
     data_pairs: &mut PairRows,
@@ -41,46 +34,34 @@ pub fn open(
     universes: &[u16],
     settings: Settings,
     reading: u64,
-    part: Measured,
+    part: Result<(), LengthError>,
     out: &[u8],
-) -> Opened
+) -> Result<Receiver, After<Receiver, StepAnswer>>
     requires sequences { sequences.Kept receiver.sequences (sequence_rows_in data_pairs data_sources sync_pairs sync_sources) }
     requires waiting { KeptWaiting receiver.waiting.count rows.old store.old }
     ensures { (rest : Memory) (sources names pages : List (List ℕ)) →
         let m = sequences_lent data_pairs data_sources sync_pairs sync_sources (waiting_lent rows store
         (untouched (with_discovery_rows sources names pages universes.now rest))) in
-        Opens settings reading (long_of part) receiver m.entry out.now result.receiver m.exit result.stopped result.answer }
+        Opens settings reading (long_of part) receiver m.entry out.now (next_of result) m.exit (stops result) (answer_of_opening result) }
 {
-    if let Measured::TooShort(needed) = test_space(out, &*store, universes) {
-        return Opened {
-            receiver: receiver,
-            stopped: true,
+    if let Err(LengthError::TooShort(needed)) = test_space(out, store, universes) {
+        return Err(After {
+            left: receiver,
             answer: StepAnswer::TooShort(needed),
-        };
+        });
     }
-    if let Measured::TooLong(length) = part {
-        return Opened {
-            receiver: receiver,
-            stopped: true,
+    if let Err(LengthError::TooLong(length)) = part {
+        return Err(After {
+            left: receiver,
             answer: StepAnswer::TooLong(length),
-        };
+        });
     }
-    let q = receiver.sequences;
-    let w = receiver.waiting;
-    if is_idle(q, w, settings, reading) {
-        let stopped = false;
-        let answer = StepAnswer::Nothing;
-        return Opened {
-            receiver,
-            stopped,
-            answer,
-        };
+    if is_idle(receiver.sequences, receiver.waiting, settings, reading) {
+        return Ok(receiver);
     }
-    let listened = receiver.listened;
-    let discovery = receiver.discovery;
     let p = poll(
-        q,
-        w,
+        receiver.sequences,
+        receiver.waiting,
         data_pairs,
         data_sources,
         sync_pairs,
@@ -90,26 +71,17 @@ pub fn open(
         settings,
         reading,
     );
-    let sequences = p.sequences;
-    let waiting = p.waiting;
-    let said = p.answer;
     let next = Receiver {
-        sequences,
-        waiting,
-        listened,
-        discovery,
+        sequences: p.sequences,
+        waiting: p.waiting,
+        ..receiver
     };
-    let SweepAnswer::TimedOut(cid, universe) = said else {
-        return Opened {
-            receiver: next,
-            stopped: false,
-            answer: StepAnswer::Nothing,
-        };
-    };
-    Opened {
-        receiver: next,
-        stopped: true,
-        answer: StepAnswer::UniverseTimeout(cid, universe),
+    match p.answer {
+        SweepAnswer::Quiet => Ok(next),
+        SweepAnswer::TimedOut(cid, universe) => Err(After {
+            left: next,
+            answer: StepAnswer::UniverseTimeout(cid, universe),
+        }),
     }
 }
 
@@ -120,18 +92,12 @@ pub fn is_ready(
     universes: &[u16],
     settings: Settings,
     reading: u64,
-    part: Measured,
+    part: Result<(), LengthError>,
     out: &[u8],
 ) -> bool
     ensures { result ≡ true → Ready settings reading (long_of part) receiver (space_of out.now store.now universes.now) }
 {
-    if let Measured::TooShort(_) = test_space(out, store, universes) {
-        return false;
-    }
-    if let Measured::TooLong(_) = part {
-        return false;
-    }
-    let q = receiver.sequences;
-    let w = receiver.waiting;
-    is_idle(q, w, settings, reading)
+    test_space(out, store, universes).is_ok()
+        && part.is_ok()
+        && is_idle(receiver.sequences, receiver.waiting, settings, reading)
 }

@@ -1,6 +1,6 @@
 -- One law for each return of a packet that is taken.
 -- Assumes nothing.
-use Rattle.std.specs.Prelude.{◌≡◌, refl, Bool, true, false, cond, not, ◌&&◌, List, [], ℕ, ◌≤◌, length}
+use Rattle.std.specs.Prelude.{◌≡◌, refl, Bool, true, false, cond, not, ◌&&◌, List, [], ℕ, ◌≤◌, length, Option, None}
 use Rattle.std.proofs.Math.Path.{sym, ap}
 use Rattle.std.proofs.Common.{◌∙◌, arith}
 use Rattle.std.proofs.Math.Option.{none, some}
@@ -10,8 +10,9 @@ use Rattle.settings.specs.declared.Settings.{Settings}
 use Rattle.pair_rows.specs.View.{Rows}
 use Rattle.pairs.specs.Table.{key, pair_at}
 use Rattle.pair_tables.specs.View.{reading_noted}
-use Rattle.pair_tables.specs.declared.DataTable.{DataTable}
-use Rattle.pair_tables.specs.declared.SyncTable.{SyncTable}
+use Rattle.pair_tables.specs.declared.TableOf.{TableOf}
+use Rattle.rules.specs.declared.DataSequence.{DataSequence}
+use Rattle.rules.specs.declared.SyncSequence.{SyncSequence}
 use Rattle.sequences.specs.declared.SequenceNumbering.{SequenceNumbering}
 use Rattle.sequences.specs.Sequences.{numbers, removed}
 use Rattle.sequences.specs.View as sequences
@@ -23,7 +24,7 @@ use Rattle.listening.specs.declared.Listened.{Listened}
 use Rattle.listening.specs.View as listening
 use Rattle.discovery_calls.specs.declared.Discovery.{Discovery}
 use Rattle.discovery.specs.declared.PageCall.{PageCall}
-use Rattle.discovery_calls.specs.declared.PageCalled.{PageCalled}
+use Rattle.laws.specs.declared.After.{After}
 use Rattle.discovery.specs.Discovery.{Discovered, arrived, ended}
 use Rattle.discovery_calls.specs.View.{discovered_of, Holds}
 use Rattle.discovery_calls.specs.Arrive.{Called, page_call_fits}
@@ -34,8 +35,6 @@ use Rattle.model.specs.Packet.{DataPacket, SyncPacket, Packet, data_packet, sync
 use Rattle.model.specs.State.{State, listens}
 use Rattle.model.specs.Step as model
 use Rattle.model.specs.Step.{outcome, data_step, terminated, sync_step, discovery_step, listed, packet_step}
-use Rattle.arrivals.specs.declared.Short.{Short}
-use Rattle.arrivals.specs.declared.Short.TheVariants as short
 use Rattle.receiver.specs.declared.Receiver.{Receiver}
 use Rattle.packets.specs.declared.DiscoveryPacket.{DiscoveryPacket}
 use Rattle.receiver.specs.View.{Memory, sequences_in, with_sequence_rows, with_data_rows, with_sync_rows, with_waiting_rows, with_listened_rows, with_discovery_rows, state_of}
@@ -70,7 +69,7 @@ module _ (S : Settings) (now : ℕ) (y : SyncPacket) (r : Receiver) (m : Memory)
   pub takes_sync_unheard : listens y.address (state_of r m).listened ≡ false → Takes S now (sync_packet y) r m out r m out says.Nothing
   takes_sync_unheard e = takes_nothing S now (sync_packet y) r m out says.Nothing (sync_unheard S now y (state_of r m) e)
 
-  pub takes_sync : (t : SyncTable) (sp ss : Rows) (w : Waiting) (rows : Rows) (store out' : List ℕ) (a : StepAnswer) → listens y.address (state_of r m).listened ≡ true
+  pub takes_sync : (t : TableOf SyncSequence) (sp ss : Rows) (w : Waiting) (rows : Rows) (store out' : List ℕ) (a : StepAnswer) → listens y.address (state_of r m).listened ≡ true
       → Synchronises S now y (rows_of r.sequences.sync.table m.sync_pairs m.sync_sources) r.waiting.count m.rows m.store out (rows_of t.table sp ss) w.count rows store out' a
       → Takes S now (sync_packet y) r m out (record { sequences = record { «data» = r.sequences.«data»; sync = t }; waiting = w; listened = r.listened; discovery = r.discovery })
       (with_sync_rows sp ss (with_waiting_rows rows store m)) out' a
@@ -90,15 +89,15 @@ module _ (S : Settings) (now : ℕ) (y : SyncPacket) (r : Receiver) (m : Memory)
 
 -- ── 5. discovery ──
 module _ (S : Settings) (now : ℕ) (p : DiscoveryPacket) (name list : List ℕ) (r : Receiver) (m : Memory) (out : List ℕ) where
-  pub takes_discovery : (d : PageCalled) (sources names pages : Rows) (universes : List ℕ) (a : StepAnswer) → length name ≤ 63 → length list ≤ 512
+  pub takes_discovery : (d : After Discovery PageCall) (sources names pages : Rows) (universes : List ℕ) (a : StepAnswer) → length name ≤ 63 → length list ≤ 512
       → Called r.discovery m.sources m.names m.pages m.universes now (announcement_of p name list) d sources names pages universes → a ≡ called S d.answer
       → Takes S now (discovery_packet (announcement_of p name list)) r m out
-      (record { sequences = r.sequences; waiting = r.waiting; listened = r.listened; discovery = d.discovery }) (with_discovery_rows sources names pages universes m) out a
+      (record { sequences = r.sequences; waiting = r.waiting; listened = r.listened; discovery = d.left }) (with_discovery_rows sources names pages universes m) out a
   unfolding packet_step discovery_step
   takes_discovery d sources names pages universes a f h t e =
       let g = arrived now (announcement_of p name list) (state_of r m).discovered in
       let x = page_call_fits now (announcement_of p name list) (state_of r m).discovered f h in
-      let u : g.0 ≡ discovered_of d.discovery sources names pages universes = sym (t.seen ∙ ap (λ (y : Discovered × PageCall). y.0) x) in
+      let u : g.0 ≡ discovered_of d.left sources names pages universes = sym (t.seen ∙ ap (λ (y : Discovered × PageCall). y.0) x) in
       let v : listed S g.1 ≡ a = sym (ap (called S) (t.answered ∙ ap (λ (y : Discovered × PageCall). y.1) x)) ∙ sym e in
       record {
         released = [];
@@ -182,7 +181,7 @@ module _ (S : Settings) (now : ℕ) (d : DataPacket) (r : Receiver) (m : Memory)
     lent_pages = t.lent_pages;
   }
 
-  pub takes_data : (t : DataTable) (dp ds : Rows) (w : Waiting) (l : Listened) (rows : Rows) (store heard out' : List ℕ) (a : StepAnswer)
+  pub takes_data : (t : TableOf DataSequence) (dp ds : Rows) (w : Waiting) (l : Listened) (rows : Rows) (store heard out' : List ℕ) (a : StepAnswer)
       → d.preview && not S.process_preview_data ≡ false → d.terminated ≡ false → listens d.universe (state_of r m).listened ≡ true
       → Arrives S now d (rows_of r.sequences.«data».table m.data_pairs m.data_sources) (lent_of r.waiting.count r.listened m.rows m.store m.heard) out
       (rows_of t.table dp ds) (lent_of w.count l rows store heard) out' a
@@ -203,19 +202,19 @@ module _ (S : Settings) (now : ℕ) (d : DataPacket) (r : Receiver) (m : Memory)
   }
 
   -- the short way
-  pub takes_short : (dp : Rows) (out' : List ℕ) (a : Short) → d.preview ≡ false → d.terminated ≡ false → listens d.universe (state_of r m).listened ≡ true → listening.Kept r.listened m.heard
+  pub takes_short : (dp : Rows) (out' : List ℕ) (a : Option ℕ) → d.preview ≡ false → d.terminated ≡ false → listens d.universe (state_of r m).listened ≡ true → listening.Kept r.listened m.heard
       → Shortens S now d r.sequences.«data».table r.waiting.count m.data_pairs m.data_sources out dp out' a
       → TakesShort S now d r m out (with_data_rows dp m.data_sources m) out' a
   takes_short dp out' a e f g k x = record {
     takes = λ b h w.
-        takes_data (record { table = reading_noted now r.sequences.«data».table }) dp m.data_sources r.waiting r.listened m.rows m.store m.heard out' (says.Released 1 b)
+        takes_data (record r.sequences.«data» { table = reading_noted now r.sequences.«data».table }) dp m.data_sources r.waiting r.listened m.rows m.store m.heard out' (says.Released 1 b)
         (ap (λ (y : Bool). y && not S.process_preview_data) e) f g (x.arrives b h (lent_of r.waiting.count r.listened m.rows m.store m.heard) refl w k);
     left = λ h.
         let y = x.left h in
         (ap (λ (z : Rows). with_data_rows z m.data_sources m) y.0, y.1);
   }
 
-  pub takes_short_nothing : TakesShort S now d r m out m out short.Left
+  pub takes_short_nothing : TakesShort S now d r m out m out None
   takes_short_nothing = record {
     takes = λ b h. let z : ◌≡◌ {A = ℕ} 0 1 = cc in absurd (omega arith);
     left = λ h. (refl, refl);

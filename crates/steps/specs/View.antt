@@ -1,6 +1,6 @@
 -- What each kind of packet does behind the opening.
 -- Assumes nothing.
-use Rattle.std.specs.Prelude.{◌≡◌, List, ℕ}
+use Rattle.std.specs.Prelude.{◌≡◌, List, ℕ, Option, Some, None}
 use Rattle.rules.specs.declared.Cid.{Cid}
 use Rattle.settings.specs.declared.Settings.{Settings}
 use Rattle.merge.specs.Merge.{Dmx}
@@ -12,8 +12,6 @@ use Rattle.model.specs.declared.StepAnswer.TheVariants as says
 use Rattle.model.specs.Packet.{DataPacket, Packet, data_packet}
 use Rattle.model.specs.Step.{terminated, packet_step}
 use Rattle.receiver.specs.declared.Receiver.{Receiver}
-use Rattle.arrivals.specs.declared.Short.{Short}
-use Rattle.arrivals.specs.declared.Short.TheVariants as short
 use Rattle.receiver.specs.View.{Memory, state_of, reading_noted, Kept}
 
 -- a stream that ends: both tables and the listed source's pages are the definition's
@@ -32,7 +30,7 @@ pub record Takes (S : Settings) (now : ℕ) (p : Packet) (r : Receiver) (m : Mem
   pub lent_pages : pool.Lent m.universes m'.universes
 
 -- 3, the short way: the packet is released while nothing waits; or all is left
-pub record TakesShort (S : Settings) (now : ℕ) (d : DataPacket) (r : Receiver) (m : Memory) (out : List ℕ) (m' : Memory) (out' : List ℕ) (answer : Short) : Type 0 where
-  pub takes : (bytes : ℕ) → answer ≡ short.Released bytes → waiting.Kept r.waiting.count m.rows m.store
+pub record TakesShort (S : Settings) (now : ℕ) (d : DataPacket) (r : Receiver) (m : Memory) (out : List ℕ) (m' : Memory) (out' : List ℕ) (answer : Option ℕ) : Type 0 where
+  pub takes : (bytes : ℕ) → answer ≡ Some bytes → waiting.Kept r.waiting.count m.rows m.store
       → Takes S now (data_packet d) r m out (reading_noted now r) m' out' (says.Released 1 bytes)
-  pub left : answer ≡ short.Left → (m' ≡ m) × (out' ≡ out)
+  pub left : answer ≡ None → (m' ≡ m) × (out' ≡ out)

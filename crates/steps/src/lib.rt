@@ -20,8 +20,10 @@ ghost use Rattle.discovery.specs.Discovery.{most_name, most_universes};
 ghost use Rattle.steps.specs.View.{Ends, Takes, TakesShort};
 
 use answers::called_answer;
-use arrivals::{Short, arrive_data, arrive_sync, release_known};
+use arrivals::{arrive_data, arrive_sync, release_known};
+use discovery_calls::Page;
 use discovery_rows::{HeadRows, NameRows, PageRows};
+use laws::After;
 use listening::ListenedUniverses;
 use model::StepAnswer;
 use packets::{Course, DataPacket, DiscoveryPacket, SyncPacket, course_of, is_unwanted};
@@ -33,13 +35,9 @@ use settings::Settings;
 use waiting_store::EntryRows;
 
 // What a step leaves and answers.
-#[derive(Clone, Copy)]
-pub struct Handled {
-    pub receiver: Receiver,
-    pub answer: StepAnswer,
-}
+pub type Handled = After<Receiver, StepAnswer>;
 
-// 3, the short way: no preview, no termination, a listened universe, and what `release_known` asks for. Otherwise all is left.
+// 3, the short way: no preview, no termination, a listened universe, and what `release_known` asks for. Answers the record's length; otherwise all is left.
 pub fn take_short(
     receiver: Receiver,
     data_pairs: &mut PairRows,
@@ -50,7 +48,7 @@ pub fn take_short(
     packet: DataPacket,
     values: &[u8],
     out: &mut [u8],
-) -> Short
+) -> Option<usize>
     requires { pairs.Kept receiver.sequences.«data».table data_pairs.old data_sources.now
         × listening.Kept receiver.listened heard.now × (most_bytes ≤ length out.old) × (length values.now ≤ most_values) }
     ensures { (rest : Memory) →
@@ -58,30 +56,23 @@ pub fn take_short(
         TakesShort settings reading (packet_of packet values.now)
         receiver m.entry out.old m.exit out.new result }
 {
-    if packet.preview {
-        return Short::Left;
+    if packet.preview
+        || packet.terminated
+        || !receiver.listened.is_listening(heard, packet.universe)
+    {
+        return None;
     }
-    if packet.terminated {
-        return Short::Left;
-    }
-    let q = receiver.sequences;
-    let w = receiver.waiting;
-    let l = receiver.listened;
-    if l.is_listening(heard, packet.universe) {
-        let d = q.data;
-        return release_known(
-            d,
-            w,
-            data_pairs,
-            data_sources,
-            settings,
-            reading,
-            packet,
-            values,
-            out,
-        );
-    }
-    Short::Left
+    release_known(
+        receiver.sequences.data,
+        receiver.waiting,
+        data_pairs,
+        data_sources,
+        settings,
+        reading,
+        packet,
+        values,
+        out,
+    )
 }
 
 // 4: a synchronisation packet.
@@ -104,45 +95,36 @@ pub fn take_sync(
     ensures { (rest : Memory) →
         let m = sync_lent sync_pairs sync_sources (waiting_lent rows store (listened_lent_shared heard (untouched rest))) in
         Takes settings reading (sync_packet (sync_of packet))
-        receiver m.entry out.old result.receiver m.exit out.new result.answer }
+        receiver m.entry out.old result.left m.exit out.new result.answer }
 {
-    let q = receiver.sequences;
-    let w = receiver.waiting;
-    let listened = receiver.listened;
-    let discovery = receiver.discovery;
-    if listened.is_listening(heard, packet.address) {
-        let data = q.data;
-        let y = q.sync;
-        let a = arrive_sync(
-            y,
-            w,
-            sync_pairs,
-            sync_sources,
-            rows,
-            store,
-            settings,
-            reading,
-            packet,
-            out,
-        );
-        let sync = a.sync;
-        let waiting = a.waiting;
-        let answer = a.answer;
-        let sequences = SequenceNumbering { data, sync };
-        let next = Receiver {
-            sequences,
-            waiting,
-            listened,
-            discovery,
-        };
-        return Handled {
-            receiver: next,
-            answer: answer,
+    if !receiver.listened.is_listening(heard, packet.address) {
+        return After {
+            left: receiver,
+            answer: StepAnswer::Nothing,
         };
     }
-    Handled {
-        receiver: receiver,
-        answer: StepAnswer::Nothing,
+    let a = arrive_sync(
+        receiver.sequences.sync,
+        receiver.waiting,
+        sync_pairs,
+        sync_sources,
+        rows,
+        store,
+        settings,
+        reading,
+        packet,
+        out,
+    );
+    After {
+        left: Receiver {
+            sequences: SequenceNumbering {
+                sync: a.sync,
+                ..receiver.sequences
+            },
+            waiting: a.waiting,
+            ..receiver
+        },
+        answer: a.answer,
     }
 }
 
@@ -165,36 +147,24 @@ pub fn take_discovery(
     ensures { (rest : Memory) (out : List ℕ) →
         let m = discovery_lent sources names pages universes (untouched rest) in
         Takes settings reading (discovery_packet (announcement_of packet name.now list.now))
-        receiver m.entry out result.receiver m.exit out result.answer }
+        receiver m.entry out result.left m.exit out result.answer }
 {
-    let sequences = receiver.sequences;
-    let waiting = receiver.waiting;
-    let listened = receiver.listened;
-    let d = receiver.discovery;
-    let a = d.page_arrives(
-        sources,
-        names,
-        pages,
-        universes,
-        reading,
-        packet.cid,
-        packet.page,
-        packet.last_page,
+    let page = Page {
+        cid: packet.cid,
+        page: packet.page,
+        last_page: packet.last_page,
         name,
         list,
-    );
-    let discovery = a.discovery;
-    let said = a.answer;
-    let answer = called_answer(said, settings);
-    let next = Receiver {
-        sequences,
-        waiting,
-        listened,
-        discovery,
     };
-    Handled {
-        receiver: next,
-        answer: answer,
+    let a = receiver
+        .discovery
+        .page_arrives(sources, names, pages, universes, reading, page);
+    After {
+        left: Receiver {
+            discovery: a.left,
+            ..receiver
+        },
+        answer: called_answer(a.answer, settings),
     }
 }
 
@@ -218,11 +188,7 @@ fn end_stream(
         let m = sequences_lent data_pairs data_sources sync_pairs sync_sources (discovery_lent_sources_shared sources names pages universes (untouched rest)) in
         Ends cid universe receiver m.entry result m.exit }
 {
-    let q = receiver.sequences;
-    let waiting = receiver.waiting;
-    let listened = receiver.listened;
-    let d = receiver.discovery;
-    let sequences = q.remove_seq_numbers(
+    let sequences = receiver.sequences.remove_seq_numbers(
         data_pairs,
         data_sources,
         sync_pairs,
@@ -230,12 +196,13 @@ fn end_stream(
         cid,
         universe,
     );
-    let discovery = d.terminate_universe(sources, names, pages, universes, cid, universe);
+    let discovery = receiver
+        .discovery
+        .terminate_universe(sources, names, pages, universes, cid, universe);
     Receiver {
         sequences,
-        waiting,
-        listened,
         discovery,
+        ..receiver
     }
 }
 
@@ -266,23 +233,17 @@ pub fn take_data(
         × (most_bytes ≤ length out.old) × (length values.now ≤ most_values) }
     ensures { let m = data_packet_lent data_pairs data_sources sync_pairs sync_sources rows store heard sources names pages universes in
         Takes settings reading (data_packet (packet_of packet values.now))
-        receiver m.entry out.old result.receiver m.exit out.new result.answer }
+        receiver m.entry out.old result.left m.exit out.new result.answer }
 {
     if is_unwanted(packet.preview, settings) {
-        return Handled {
-            receiver: receiver,
+        return After {
+            left: receiver,
             answer: StepAnswer::Nothing,
         };
     }
-    let q = receiver.sequences;
-    let w = receiver.waiting;
-    let l = receiver.listened;
-    let discovery = receiver.discovery;
-    let listening = l.is_listening(&*heard, packet.universe);
-    let course = course_of(packet.terminated, listening);
-    match course {
+    let listening = receiver.listened.is_listening(heard, packet.universe);
+    match course_of(packet.terminated, listening) {
         Course::End => {
-            let cid = packet.cid;
             let next = end_stream(
                 receiver,
                 data_pairs,
@@ -293,27 +254,26 @@ pub fn take_data(
                 names,
                 pages,
                 universes,
-                cid,
+                packet.cid,
                 packet.universe,
             );
             if settings.announce_stream_termination {
-                return Handled {
-                    receiver: next,
-                    answer: StepAnswer::UniverseTerminated(cid, packet.universe),
-                };
-            }
-            Handled {
-                receiver: next,
-                answer: StepAnswer::Nothing,
+                After {
+                    left: next,
+                    answer: StepAnswer::UniverseTerminated(packet.cid, packet.universe),
+                }
+            } else {
+                After {
+                    left: next,
+                    answer: StepAnswer::Nothing,
+                }
             }
         }
         Course::Arrive => {
-            let d = q.data;
-            let sync = q.sync;
             let a = arrive_data(
-                d,
-                w,
-                l,
+                receiver.sequences.data,
+                receiver.waiting,
+                receiver.listened,
                 data_pairs,
                 data_sources,
                 rows,
@@ -325,24 +285,21 @@ pub fn take_data(
                 values,
                 out,
             );
-            let data = a.data;
-            let waiting = a.waiting;
-            let listened = a.listened;
-            let answer = a.answer;
-            let sequences = SequenceNumbering { data, sync };
-            let next = Receiver {
-                sequences,
-                waiting,
-                listened,
-                discovery,
-            };
-            Handled {
-                receiver: next,
-                answer: answer,
+            After {
+                left: Receiver {
+                    sequences: SequenceNumbering {
+                        data: a.data,
+                        ..receiver.sequences
+                    },
+                    waiting: a.waiting,
+                    listened: a.listened,
+                    ..receiver
+                },
+                answer: a.answer,
             }
         }
-        Course::Pass => Handled {
-            receiver: receiver,
+        Course::Pass => After {
+            left: receiver,
             answer: StepAnswer::Nothing,
         },
     }

@@ -8,5 +8,5 @@ pub returns : goal.returns
 returns c m out =
     let v = c.args in
     takes_discovery v.settings v.reading v.packet v.name.now v.list.now v.receiver (with_discovery_rows v.sources.now v.names.now v.pages.now v.universes.now m) out
-    c.page_arrives-a.result c.page_arrives-a.new.sources c.page_arrives-a.new.names c.page_arrives-a.new.pages c.page_arrives-a.new.universes c.called_answer-answer.result
-    c.requires.name c.requires.list c.page_arrives-a.ensures c.called_answer-answer.ensures.answer
+    c.page_arrives-a.result c.page_arrives-a.new.sources c.page_arrives-a.new.names c.page_arrives-a.new.pages c.page_arrives-a.new.universes c.called_answer.result
+    c.requires.name c.requires.list c.page_arrives-a.ensures c.called_answer.ensures.answer

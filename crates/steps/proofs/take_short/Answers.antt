@@ -11,18 +11,8 @@ returns-then-packet c m =
     let v = c.args in
     takes_short_nothing v.settings v.reading (packet_of v.packet v.values.now) v.receiver (with_data_rows v.data_pairs.now v.data_sources.now (with_listened_rows v.heard.now m)) v.out.now
 
-pub returns-then-packet-2 : goal.returns-then-packet-2
-returns-then-packet-2 c m =
-    let v = c.args in
-    takes_short_nothing v.settings v.reading (packet_of v.packet v.values.now) v.receiver (with_data_rows v.data_pairs.now v.data_sources.now (with_listened_rows v.heard.now m)) v.out.now
-
-pub returns-then-is_listening : goal.returns-then-is_listening
-returns-then-is_listening c m =
-    let v = c.args in
-    takes_short v.settings v.reading (packet_of v.packet v.values.now) v.receiver (with_data_rows v.data_pairs.now v.data_sources.now (with_listened_rows v.heard.now m)) v.out.now
-    c.release_known.new.pairs c.release_known.new.out c.release_known.result c.if-packet.false c.if-packet-2.false (sym c.is_listening.ensures ∙ c.if-is_listening.true) c.requires.1 c.release_known.ensures
-
 pub returns : goal.returns
 returns c m =
     let v = c.args in
-    takes_short_nothing v.settings v.reading (packet_of v.packet v.values.now) v.receiver (with_data_rows v.data_pairs.now v.data_sources.now (with_listened_rows v.heard.now m)) v.out.now
+    takes_short v.settings v.reading (packet_of v.packet v.values.now) v.receiver (with_data_rows v.data_pairs.now v.data_sources.now (with_listened_rows v.heard.now m)) v.out.now
+    c.release_known.new.pairs c.release_known.new.out c.release_known.result c.if-packet.false c.if-packet-2.false (sym c.is_listening.ensures ∙ c.if-not-is_listening.false) c.requires.1 c.release_known.ensures
