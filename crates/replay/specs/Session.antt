@@ -1,14 +1,14 @@
 -- What a command does to settings and state and what it prints, by the model's definitions; and when the program's memory follows it.
 -- Assumes nothing.
-use Rattle.std.specs.Prelude.{◌≡◌, Bool, cond, List, [], ℕ, ◌≤◌, length, take, replicate}
+use Rattle.std.specs.Prelude.{◌≡◌, Option, Some, None, Result, Bool, cond, List, [], ℕ, ◌≤◌, length, take, replicate}
+use Rattle.std.specs.Result.{result_unwrap_or}
 use Rattle.rules.specs.Answer.{Value}
 use Rattle.settings.specs.declared.Settings.{Settings}
-use Rattle.settings.specs.declared.Adjusted.{Adjusted}
+use Rattle.settings.specs.declared.SettingError.{SettingError}
 use Rattle.settings.specs.declared.SourceLimit.TheVariants.{AtMost}
 use Rattle.settings.specs.Settings as setting
 use Rattle.settings_store.specs.declared.Layouts.{Layouts}
-use Rattle.settings_store.specs.declared.LoadSettingsAnswer.{LoadSettingsAnswer}
-use Rattle.settings_store.specs.declared.LoadSettingsAnswer.TheVariants as load
+use Rattle.settings_store.specs.declared.LoadSettingsError.{LoadSettingsError}
 use Rattle.settings_store.specs.Record.{store_answer, store_bytes, loaded, load_number, load_values}
 use Rattle.waiting.specs.Records.{records, over}
 use Rattle.waiting.specs.Waiting.{store_length}
@@ -39,7 +39,7 @@ use Rattle.script.specs.Lines.{Unread, silent}
 use Rattle.printing.specs.Text.{Ready, Tells}
 use Rattle.printing.specs.Answers.{answer_line, flag_line, step_line, store_line, settings_line}
 use Rattle.replay.specs.Dump.{dump_text}
-use Rattle.script.specs.Script.{line_of}
+use Rattle.script.specs.Script.{Reading, line_of}
 
 -- ── what a command does ──
 pub record Outcome : Type 0 where
@@ -59,8 +59,8 @@ abbrev pub set_to : Settings → State → Outcome
 set_to S s = outcome S s (answer_line 0 [])
 
 -- a setter that can refuse
-abbrev pub answered : Adjusted → State → Outcome
-answered a s = outcome a.settings s (answer_line (setting.number_of a.answer) (setting.values_of a.answer))
+abbrev pub answered : Result Settings SettingError → Settings → State → Outcome
+answered r S s = outcome (setting.kept r S) s (answer_line (setting.number_of r) (setting.values_of r))
 
 -- a call that answers
 abbrev pub called : {A : Type 0} → (State → State × A) → (A → ℕ) → (A → List Value) → Settings → State → Outcome
@@ -99,8 +99,8 @@ adjusted (sets.AnnounceTermination on) S s = set_to (setting.with_termination on
 adjusted (sets.AnnounceTimeout on) S s = set_to (setting.with_timeout on S) s
 adjusted (sets.Merge choice) S s = set_to (setting.with_merge choice S) s
 adjusted sets.NoLimit S s = set_to (setting.without_limit S) s
-adjusted (sets.Limit n) S s = answered (setting.limited n S) s
-adjusted (sets.Expiry n) S s = answered (setting.expiring n S) s
+adjusted (sets.Limit n) S s = answered (setting.limited n S) S s
+adjusted (sets.Expiry n) S s = answered (setting.expiring n S) S s
 -- "puts a value into the settings past the setter"
 adjusted (sets.RawLimit n) S s = set_to (setting.with_limit (AtMost n) S) s
 adjusted (sets.RawExpiry n) S s = set_to (setting.with_expiry n S) s
@@ -110,10 +110,8 @@ abbrev pub stored : List ℕ → Settings → State → Outcome
 stored lent S s = outcome S s (store_line (store_bytes S lent) (store_answer S (length lent)))
 
 -- "after 0 the script's settings are those that were read"; else they stay
-abbrev pub settings_read : LoadSettingsAnswer → Settings → Settings
-settings_read (load.Loaded read) S = read
-settings_read load.NoSettingsRecord S = S
-settings_read load.UnreadableSettingsRecord S = S
+abbrev pub settings_read : Result Settings LoadSettingsError → Settings → Settings
+settings_read r S = result_unwrap_or r S
 
 -- "the reader, and the reader that knows layout 1 alone"
 abbrev pub restored : Layouts → List ℕ → Settings → State → Outcome
@@ -133,7 +131,6 @@ recorded bs asks.Show S s = shown S s
 
 -- each command, with the bytes and the numbers that its line put into lent memory
 abbrev pub carried : Memory → List ℕ → List ℕ → List ℕ → Command → Settings → State → Outcome
-carried m output bs us says.Error S s = refused S s
 carried m output bs us says.Fresh S s = begun
 carried m output bs us (says.Set x) S s = adjusted x S s
 carried m output bs us (says.Settings x) S s = recorded bs x S s
@@ -152,12 +149,16 @@ carried m output bs us (says.Discovery l) S s =
     stepped (space_in m output) output (take l.name bs) l.now (discovery_packet (announcement_of l.packet (take l.name bs) (take l.count us))) S s
 carried m output bs us says.Dump S s = dumped S s
 
+-- what was read of a line; "A line that is none of these prints `error` and changes nothing."
+abbrev pub said : Memory → List ℕ → Option Reading → Settings → State → Outcome
+said m output None S s = refused S s
+said m output (Some x) S s = carried m output x.bytes x.numbers x.command S s
+
 -- a line, read into memory that holds so many bytes and so many numbers; of a line that is too long this is the front
 abbrev pub spoken : Memory → List ℕ → ℕ → ℕ → Bool → List ℕ → Settings → State → Outcome
 spoken m output room places long line S s =
     cond (silent line) (outcome S s [])
-    (cond long (refused S s)
-    (let x = line_of room places line in carried m output x.bytes x.numbers x.command S s))
+    (cond long (refused S s) (said m output (line_of room places line) S s))
 
 -- ── the program's memory ──
 -- a receiver whose calls may be made, with stores of full length

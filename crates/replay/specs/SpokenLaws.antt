@@ -1,8 +1,8 @@
 -- A command's counts are those of its line, so what the lent memory holds behind them plays no part.
 -- Assumes nothing.
-use Rattle.std.specs.Prelude.{◌≡◌, refl, Bool, true, false, List, [], ℕ, ltb, length, take}
+use Rattle.std.specs.Prelude.{◌≡◌, refl, Option, Some, None, option_map, Bool, true, false, List, [], ℕ, ltb, length, take}
 use Rattle.std.proofs.Common.{sym, ap, ◌∙◌}
-use Rattle.std.proofs.Math.Option.{Option, none, some}
+use Rattle.std.proofs.lemmas.Option.{none-some, same_Some}
 use Rattle.std.proofs.Math.Seq.{take-length}
 use Rattle.laws.specs.Cases.{split}
 use Rattle.settings.specs.declared.Settings.{Settings}
@@ -13,41 +13,22 @@ use Rattle.model.specs.Calls.{listen_call}
 use Rattle.model.specs.Answer.{listen_number, listen_values}
 use Rattle.receiver.specs.View.{Memory, space_in}
 use Rattle.packets.specs.View.{announcement_of}
-use Rattle.script.specs.declared.line_fields.Number.{Number}
-use Rattle.script.specs.declared.line_fields.Number.TheVariants as number
-use Rattle.script.specs.declared.line_fields.Small.{Small}
-use Rattle.script.specs.declared.line_fields.Small.TheVariants as small
-use Rattle.script.specs.declared.line_fields.Octet.{Octet}
-use Rattle.script.specs.declared.line_fields.Octet.TheVariants as octet
-use Rattle.script.specs.declared.line_fields.Flag.{Flag}
-use Rattle.script.specs.declared.line_fields.Flag.TheVariants as flag
-use Rattle.script.specs.declared.parse.Stamp.{Stamp}
-use Rattle.script.specs.declared.parse.Stamped.{Stamped}
-use Rattle.script.specs.declared.parse.Stamped.TheVariants as stamped
-use Rattle.script.specs.declared.parse.DataNumbers.{DataNumbers}
-use Rattle.script.specs.declared.parse.Numbered.{Numbered}
-use Rattle.script.specs.declared.parse.Numbered.TheVariants as numbered
 use Rattle.script.specs.declared.parse.SettingsLine.TheVariants as asks
-use Rattle.script.specs.declared.parse.Known.{Known}
-use Rattle.script.specs.declared.parse.Known.TheVariants as known
 use Rattle.script.specs.declared.parse.Command.{Command}
 use Rattle.script.specs.declared.parse.Command.TheVariants as says
-use Rattle.script.specs.declared.parse.SettingWord.{SettingWord}
-use Rattle.script.specs.declared.parse.SettingWord.TheVariants as setting
-use Rattle.script.specs.declared.parse.RecordWord.{RecordWord}
-use Rattle.script.specs.declared.parse.RecordWord.TheVariants as records
 use Rattle.script.specs.declared.parse.UniverseWord.{UniverseWord}
 use Rattle.script.specs.declared.parse.UniverseWord.TheVariants as universe
 use Rattle.script.specs.declared.parse.ReadingWord.{ReadingWord}
 use Rattle.script.specs.declared.parse.ReadingWord.TheVariants as reading
+use Rattle.script.specs.declared.parse.RecordWord.{RecordWord}
+use Rattle.script.specs.declared.parse.RecordWord.TheVariants as records
 use Rattle.script.specs.declared.parse.Word.{Word}
 use Rattle.script.specs.declared.parse.Word.TheVariants as word
 use Rattle.laws.specs.Ascii.{ascii}
 use Rattle.script.specs.Fields.{eql, ending, number_of, small_of, octet_of, flag_of, byte_string_of, list_of}
-use Rattle.script.specs.Script
-use Rattle.script.specs.Script.{Reading, Reads, plain, first_of, rest_of, past_five, lone_of, word_of, flagged, aimed, timed, merge_of, limit_number, limit_of, expiry_said, raw_limit_said, raw_expiry_said, store_said, layouts_of, load_bytes, load_known, record_of, stamp_of, numbers_of, data_values, data_numbers, data_stamp, data_of, sync_sequence, sync_address, sync_stamp, sync_of, page_universes, page_name, page_last, page_number, page_stamp, discovery_of, listen_list, fields_of, line_of}
+use Rattle.script.specs.Script.{most, Reading, Reads, bare, plain, given, first_of, rest_of, past_two, past_five, lone_of, word_of, flagged, aimed, timed, merge_of, limit_of, layouts_of, record_of, stamp_of, numbers_of, data_said, data_of, sync_of, page_said, discovery_of, listen_said, load_said, load_of, fields_of, line_of}
 use Rattle.script.specs.Lines.{silent}
-use Rattle.replay.specs.Session.{outcome, called, stepped, refused, restored, carried, spoken}
+use Rattle.replay.specs.Session.{outcome, called, stepped, refused, restored, carried, said, spoken}
 
 -- the counts of a command are the lengths of its bytes and numbers
 abbrev Counted : Command → List ℕ → List ℕ → Type 0
@@ -55,7 +36,6 @@ Counted (says.Data l) bs us = l.count ≡ length bs
 Counted (says.Discovery l) bs us = (l.name ≡ length bs) × (l.count ≡ length us)
 Counted (says.Listen n) bs us = n ≡ length us
 Counted (says.Settings (asks.Load n k)) bs us = n ≡ length bs
-Counted says.Error bs us = Unit {0}
 Counted says.Fresh bs us = Unit {0}
 Counted (says.Set x) bs us = Unit {0}
 Counted (says.Settings (asks.Store n)) bs us = Unit {0}
@@ -70,64 +50,43 @@ Counted (says.Reset x) bs us = Unit {0}
 Counted (says.Sync l) bs us = Unit {0}
 Counted says.Dump bs us = Unit {0}
 
-abbrev Counts : Reading → Type 0
-Counts x = Counted x.command x.bytes x.numbers
+abbrev Counts : Option Reading → Type 0
+Counts None = Unit {0}
+Counts (Some x) = Counted x.command x.bytes x.numbers
 
 -- ── every line counts what it reads ──
-set_counts : (w : SettingWord) (x : Flag) → Counts (plain (flagged w x))
-set_counts setting.Preview (flag.Of b) = tt
-set_counts setting.Discovery (flag.Of b) = tt
-set_counts setting.Termination (flag.Of b) = tt
-set_counts setting.Timeout (flag.Of b) = tt
-set_counts setting.Preview flag.Bad = tt
-set_counts setting.Discovery flag.Bad = tt
-set_counts setting.Termination flag.Bad = tt
-set_counts setting.Timeout flag.Bad = tt
+-- what follows from a field, if it is read
+given_counts : {A : Type 0} (o : Option A) (f : A → Option Reading) → ((x : A) → Counts (f x)) → Counts (given o f)
+given_counts None f h = tt
+given_counts (Some x) f h = h x
 
-aim_counts : (w : UniverseWord) (x : Small) → Counts (plain (aimed w x))
-aim_counts universe.Mute (small.Of u) = tt
-aim_counts universe.Listening (small.Of u) = tt
-aim_counts universe.Clear (small.Of u) = tt
-aim_counts universe.Mute small.Bad = tt
-aim_counts universe.Listening small.Bad = tt
-aim_counts universe.Clear small.Bad = tt
+plain_counts : {A : Type 0} (o : Option A) (f : A → Command) → ((x : A) → Counted (f x) [] []) → Counts (plain (option_map f o))
+plain_counts None f h = tt
+plain_counts (Some x) f h = h x
 
-time_counts : (w : ReadingWord) (x : Number) → Counts (plain (timed w x))
-time_counts reading.Poll (number.Of n) = tt
-time_counts reading.Sweep (number.Of n) = tt
-time_counts reading.Poll number.Bad = tt
-time_counts reading.Sweep number.Bad = tt
+map_counts : {A : Type 0} (o : Option A) (f : A → Reading) → ((x : A) → Counts (Some (f x))) → Counts (option_map f o)
+map_counts None f h = tt
+map_counts (Some x) f h = h x
 
-number_counts : (x : Small) → Counts (plain (limit_number x))
-number_counts (small.Of n) = tt
-number_counts small.Bad = tt
+aim_counts : (w : UniverseWord) (u : ℕ) → Counted (aimed w u) [] []
+aim_counts universe.Mute u = tt
+aim_counts universe.Listening u = tt
+aim_counts universe.Clear u = tt
 
-expiry_counts : (x : Number) → Counts (plain (expiry_said x))
-expiry_counts (number.Of n) = tt
-expiry_counts number.Bad = tt
+time_counts : (w : ReadingWord) (n : ℕ) → Counted (timed w n) [] []
+time_counts reading.Poll n = tt
+time_counts reading.Sweep n = tt
 
-raw_limit_counts : (x : Small) → Counts (plain (raw_limit_said x))
-raw_limit_counts (small.Of n) = tt
-raw_limit_counts small.Bad = tt
-
-raw_expiry_counts : (x : Number) → Counts (plain (raw_expiry_said x))
-raw_expiry_counts (number.Of n) = tt
-raw_expiry_counts number.Bad = tt
-
-store_counts : (x : Number) → Counts (plain (store_said x))
-store_counts (number.Of n) = tt
-store_counts number.Bad = tt
-
-load_counts : (x : Known) (o : Option (List ℕ)) → Counts (load_known x o)
-load_counts (known.Of k) (some l) = refl
-load_counts (known.Of k) none = tt
-load_counts known.Bad o = tt
+load_counts : (room : ℕ) (s : List ℕ) → Counts (load_of room s)
+load_counts room s =
+    given_counts (layouts_of s) (λ k. given (byte_string_of room (first_of s)) (λ l. Some (load_said k l)))
+    (λ k. given_counts (byte_string_of room (first_of s)) (λ l. Some (load_said k l)) (λ l. refl))
 
 record_counts : (room : ℕ) (w : RecordWord) (s : List ℕ) → Counts (record_of room w s)
-record_counts room records.RawLimit s = raw_limit_counts (small_of s)
-record_counts room records.RawExpiry s = raw_expiry_counts (number_of 4294967295 s)
-record_counts room records.Store s = store_counts (number_of 64 s)
-record_counts room records.Load s = load_counts (layouts_of s) (byte_string_of room (first_of s))
+record_counts room records.RawLimit s = plain_counts (small_of s) _ (λ n. tt)
+record_counts room records.RawExpiry s = plain_counts (number_of 4294967295 s) _ (λ n. tt)
+record_counts room records.Store s = plain_counts (number_of 64 s) _ (λ n. tt)
+record_counts room records.Load s = load_counts room s
 
 lone_counts : (s : List ℕ) → Counts (plain (lone_of s))
 lone_counts s =
@@ -139,75 +98,45 @@ lone_counts s =
     rw i (split (eql s (ascii "dump")) (λ j. rw j tt) (λ j.
     rw j (split (eql s (ascii "settings")) (λ k. rw k tt) (λ k. rw k tt)))))))))))))
 
-sequence_counts : (t : Stamp) (a : ℕ) (x : Octet) → Counts (plain (sync_sequence t a x))
-sequence_counts t a (octet.Of q) = tt
-sequence_counts t a octet.Bad = tt
+-- the same of a command that counts nothing
+plainly : {A : Type 0} (o : Option A) (f : A → Option Command) → ((x : A) → Counts (plain (f x))) → Counts (plain (given o f))
+plainly None f h = tt
+plainly (Some x) f h = h x
 
-address_counts : (t : Stamp) (x : Small) (s : List ℕ) → Counts (plain (sync_address t x s))
-address_counts t (small.Of a) s = sequence_counts t a (octet_of s)
-address_counts t small.Bad s = tt
+sync_counts : (s : List ℕ) → Counts (plain (sync_of s))
+unfolding sync_of
+sync_counts s = plainly (stamp_of s) _ (λ t. plainly (small_of (first_of (past_two s))) _ (λ a. plainly (octet_of (rest_of (past_two s))) _ (λ q. tt)))
 
-sync_counts : (x : Stamped) (s : List ℕ) → Counts (plain (sync_stamp x s))
-sync_counts (stamped.Of t) s = address_counts t (small_of (first_of s)) (rest_of s)
-sync_counts stamped.Bad s = tt
+data_counts : (room : ℕ) (s : List ℕ) → Counts (data_of room s)
+unfolding data_of
+data_counts room s =
+    given_counts (stamp_of s) _ (λ t. given_counts (numbers_of (past_two s)) _ (λ n. given_counts (byte_string_of room (past_five (past_two s))) _ (λ l. refl)))
 
-values_counts : (t : Stamp) (n : DataNumbers) (o : Option (List ℕ)) → Counts (data_values t n o)
-values_counts t n (some l) = refl
-values_counts t n none = tt
-
-data_counts : (room : ℕ) (x : Stamped) (s : List ℕ) → Counts (data_stamp room x s)
-data_counts room (stamped.Of t) s = numbers_counts (numbers_of s)
-  where
-    numbers_counts : (x : Numbered) → Counts (data_numbers t x (byte_string_of room (past_five s)))
-    numbers_counts (numbered.Of n) = values_counts t n (byte_string_of room (past_five s))
-    numbers_counts numbered.Bad = tt
-data_counts room stamped.Bad s = tt
-
-universes_counts : (t : Stamp) (p e : ℕ) (l : List ℕ) (o : Option (List ℕ)) → Counts (page_universes t p e l o)
-universes_counts t p e l (some us) = (refl, refl)
-universes_counts t p e l none = tt
-
-name_counts : (t : Stamp) (p e : ℕ) (o x : Option (List ℕ)) → Counts (page_name t p e o x)
-name_counts t p e (some l) x = universes_counts t p e l x
-name_counts t p e none x = tt
-
-last_counts : (room places : ℕ) (t : Stamp) (p : ℕ) (x : Octet) (s : List ℕ) → Counts (page_last room places t p x s)
-last_counts room places t p (octet.Of e) s = name_counts t p e (byte_string_of room (first_of s)) (list_of places (rest_of s))
-last_counts room places t p octet.Bad s = tt
-
-page_counts : (room places : ℕ) (t : Stamp) (x : Octet) (s : List ℕ) → Counts (page_number room places t x s)
-page_counts room places t (octet.Of p) s = last_counts room places t p (octet_of (first_of s)) (rest_of s)
-page_counts room places t octet.Bad s = tt
-
-discovery_counts : (room places : ℕ) (x : Stamped) (s : List ℕ) → Counts (page_stamp room places x s)
-discovery_counts room places (stamped.Of t) s = page_counts room places t (octet_of (first_of s)) (rest_of s)
-discovery_counts room places stamped.Bad s = tt
-
-listen_counts : (o : Option (List ℕ)) → Counts (listen_list o)
-listen_counts (some us) = refl
-listen_counts none = tt
+discovery_counts : (room places : ℕ) (s : List ℕ) → Counts (discovery_of room places s)
+unfolding discovery_of
+discovery_counts room places s =
+    given_counts (stamp_of s) _ (λ t. given_counts (octet_of (first_of (past_two s))) _ (λ p. given_counts (octet_of (first_of (rest_of (past_two s)))) _ (λ e.
+    given_counts (byte_string_of room (first_of (past_two (past_two s)))) _ (λ l. given_counts (list_of places (rest_of (past_two (past_two s)))) _ (λ us. (refl, refl))))))
 
 fields_counts : (room places : ℕ) (w : Word) (s : List ℕ) → Counts (fields_of room places w s)
-unfolding data_of sync_of discovery_of
-fields_counts room places word.Unknown s = tt
-fields_counts room places word.Data s = data_counts room (stamp_of s) (rest_of (rest_of s))
-fields_counts room places word.Sync s = sync_counts (stamp_of s) (rest_of (rest_of s))
-fields_counts room places word.Discovery s = discovery_counts room places (stamp_of s) (rest_of (rest_of s))
-fields_counts room places word.Listen s = listen_counts (list_of places s)
+fields_counts room places word.Data s = data_counts room s
+fields_counts room places word.Sync s = sync_counts s
+fields_counts room places word.Discovery s = discovery_counts room places s
+fields_counts room places word.Listen s = map_counts (list_of places s) listen_said (λ us. refl)
 fields_counts room places word.Merge s =
     split (eql s (ascii "priority")) (λ e. rw e tt) (λ e. rw e (split (eql s (ascii "highest")) (λ f. rw f tt) (λ f. rw f tt)))
-fields_counts room places word.Limit s = split (eql s (ascii "none")) (λ e. rw e tt) (λ e. rw e (number_counts (small_of s)))
-fields_counts room places word.Expiry s = expiry_counts (number_of 4294967295 s)
-fields_counts room places (word.Setting w) s = set_counts w (flag_of s)
+fields_counts room places word.Limit s = split (eql s (ascii "none")) (λ e. rw e tt) (λ e. rw e (plain_counts (small_of s) _ (λ n. tt)))
+fields_counts room places word.Expiry s = plain_counts (number_of 4294967295 s) _ (λ n. tt)
+fields_counts room places (word.Setting w) s = plain_counts (flag_of s) _ (λ on. tt)
 fields_counts room places (word.Record w) s = record_counts room w s
-fields_counts room places (word.Universe w) s = aim_counts w (small_of s)
-fields_counts room places (word.Reading w) s = time_counts w (number_of Script.most s)
+fields_counts room places (word.Universe w) s = plain_counts (small_of s) (aimed w) (aim_counts w)
+fields_counts room places (word.Reading w) s = plain_counts (number_of most s) (timed w) (time_counts w)
 
 line_counts : (room places : ℕ) (s : List ℕ) → Counts (line_of room places s)
 unfolding line_of
 line_counts room places s =
     split (ltb (ending 32 s) (length s))
-    (λ e. rw e (fields_counts room places (word_of (first_of s)) (rest_of s)))
+    (λ e. rw e (given_counts (word_of (first_of s)) _ (λ w. fields_counts room places w (rest_of s))))
     (λ e. rw e (lone_counts s))
 
 -- ── so the command does what the line says ──
@@ -223,7 +152,6 @@ module _ (m : Memory) (output : List ℕ) (S : Settings) (s : State) where
       ∙ ap (λ (x : List ℕ). stepped (space_in m output) output (take l.name cs) l.«now» (discovery_packet (announcement_of l.packet (take l.name cs) x)) S s) (front_same l.count us vs h.1 q)
   alike (says.Listen n) bs us cs vs h p q = ap (λ (x : List ℕ). called (listen_call x) listen_number listen_values S s) (front_same n us vs h q)
   alike (says.Settings (asks.Load n k)) bs us cs vs h p q = ap (λ (x : List ℕ). restored k x S s) (front_same n bs cs h p)
-  alike says.Error bs us cs vs h p q = refl
   alike says.Fresh bs us cs vs h p q = refl
   alike (says.Set x) bs us cs vs h p q = refl
   alike (says.Settings (asks.Store n)) bs us cs vs h p q = refl
@@ -238,11 +166,16 @@ module _ (m : Memory) (output : List ℕ) (S : Settings) (s : State) where
   alike (says.Sync l) bs us cs vs h p q = refl
   alike says.Dump bs us cs vs h p q = refl
 
-  pub carried_line : (room places : ℕ) (line : List ℕ) (r : Command) (bs us : List ℕ) → Reads (line_of room places line) r bs us
-      → carried m output bs us r S s ≡ carried m output (line_of room places line).bytes (line_of room places line).numbers (line_of room places line).command S s
-  carried_line room places line r bs us k =
-      ap (λ (c : Command). carried m output bs us c S s) k.command_is
-      ∙ alike (line_of room places line).command bs us (line_of room places line).bytes (line_of room places line).numbers (line_counts room places line) k.bytes_are k.numbers_are
+  -- what was read, as the command that the code has, or as nothing
+  pub carried_said : (x : Option Reading) (r : Option Command) (c : Command) (bs us : List ℕ) → Counts x → Reads x r bs us → r ≡ Some c → carried m output bs us c S s ≡ said m output x S s
+  carried_said None r c bs us k h e = absurd (none-some c (sym h ∙ e))
+  carried_said (Some x) r c bs us k h e =
+      ap (λ (d : Command). carried m output bs us d S s) (same_Some c x.command (sym e ∙ h.0))
+      ∙ alike x.command bs us x.bytes x.numbers k h.1.bytes_are h.1.numbers_are
+
+  pub refused_said : (x : Option Reading) (r : Option Command) (bs us : List ℕ) → Reads x r bs us → r ≡ None → refused S s ≡ said m output x S s
+  refused_said None r bs us h e = refl
+  refused_said (Some x) r bs us h e = absurd (none-some x.command (sym e ∙ h.0))
 
 -- ── a line, by its tests ──
 module _ (m : Memory) (output : List ℕ) (room places : ℕ) (long : Bool) (line : List ℕ) (S : Settings) (s : State) where
@@ -252,6 +185,9 @@ module _ (m : Memory) (output : List ℕ) (room places : ℕ) (long : Bool) (lin
   pub spoken_long : silent line ≡ false → long ≡ true → refused S s ≡ spoken m output room places long line S s
   spoken_long h l = sym (rw (h, l))
 
-  pub spoken_said : silent line ≡ false → long ≡ false → (r : Command) (bs us : List ℕ) → Reads (line_of room places line) r bs us
-      → carried m output bs us r S s ≡ spoken m output room places long line S s
-  spoken_said h l r bs us k = rw (h, l) (carried_line m output S s room places line r bs us k)
+  module _ (h : silent line ≡ false) (l : long ≡ false) (r : Option Command) (bs us : List ℕ) (k : Reads (line_of room places line) r bs us) where
+    pub spoken_said : (c : Command) → r ≡ Some c → carried m output bs us c S s ≡ spoken m output room places long line S s
+    spoken_said c e = rw (h, l) (carried_said m output S s (line_of room places line) r c bs us (line_counts room places line) k e)
+
+    pub spoken_none : r ≡ None → refused S s ≡ spoken m output room places long line S s
+    spoken_none e = rw (h, l) (refused_said m output S s (line_of room places line) r bs us k e)

@@ -17,10 +17,9 @@ ghost use Rattle.discovery.specs.Discovery.{pool_length};
 ghost use Rattle.receiver.specs.View.{Memory, memory, with_sequence_rows, with_waiting_rows, with_listened_rows, with_discovery_rows, state_of, space_in, Kept, Becomes};
 ghost use Rattle.packets.specs.View.{announcement_of};
 ghost use Rattle.printing.specs.Text.{Ready};
-ghost use Rattle.replay.specs.Session.{begun, set_to, answered, stored, settings_read, restored, shown, recorded, called, changed, resetting, asked, stepped, Carries};
+ghost use Rattle.replay.specs.Session.{begun, set_to, answered, stored, restored, shown, recorded, called, changed, resetting, asked, stepped, Carries};
 ghost use Rattle.model.specs.Step.{most_listened};
 
-use crate::dump::front_numbers;
 use discovery_rows::{HeadRows, NameRows, PageRows};
 use handlers::{handle_data_packet, handle_sync_packet, handle_universe_discovery_packet};
 use listening::ListenedUniverses;
@@ -31,9 +30,9 @@ use printing::answers::{
 };
 use receiver::Receiver;
 use script::parse::{DataLine, PageLine, Reset, SettingsLine, SyncLine};
-use settings::{Adjusted, Settings, SourceLimit};
+use settings::{SettingError, Settings, SourceLimit};
 use settings_calls::{load_settings, store_settings};
-use settings_store::{Layouts, LoadSettingsAnswer};
+use settings_store::Layouts;
 use std::io::Stdout;
 use waiting_store::EntryRows;
 
@@ -54,9 +53,9 @@ pub fn begin(session: Session, heard: &mut ListenedUniverses, to: Stdout, out: &
     let settings = Settings::new();
     let at = put_number(to, out, session.at, 0);
     Session {
-        receiver: receiver,
-        settings: settings,
-        at: at,
+        receiver,
+        settings,
+        at,
     }
 }
 
@@ -66,29 +65,31 @@ pub fn set(session: Session, settings: Settings, to: Stdout, out: &mut [u8]) -> 
     ensures { (m : Memory) → Carries session m out.old (set_to settings (state_of session.receiver m)) result m
         out.new }
 {
-    let receiver = session.receiver;
     let at = put_number(to, out, session.at, 0);
     Session {
-        receiver: receiver,
-        settings: settings,
-        at: at,
+        settings,
+        at,
+        ..session
     }
 }
 
 // The settings are set or, where the setter refuses, left.
-pub fn set_answered(session: Session, adjusted: Adjusted, to: Stdout, out: &mut [u8]) -> Session
+pub fn set_answered(
+    session: Session,
+    answer: Result<Settings, SettingError>,
+    to: Stdout,
+    out: &mut [u8],
+) -> Session
     requires { Ready session.at out.old }
-    ensures { (m : Memory) → Carries session m out.old (answered adjusted (state_of session.receiver m)) result m
+    ensures { (m : Memory) → Carries session m out.old (answered answer session.settings (state_of session.receiver m)) result m
         out.new }
 {
-    let receiver = session.receiver;
-    let settings = adjusted.settings;
-    let answer = adjusted.answer;
+    let settings = answer.unwrap_or(session.settings);
     let at = put_setting(to, out, session.at, answer);
     Session {
-        receiver: receiver,
-        settings: settings,
-        at: at,
+        settings,
+        at,
+        ..session
     }
 }
 
@@ -96,15 +97,9 @@ pub fn set_answered(session: Session, adjusted: Adjusted, to: Stdout, out: &mut 
 pub fn with_raw_limit(s: Settings, limit: u16) -> Settings
     ensures { result ≡ with_limit (AtMost limit) s }
 {
-    let merge = s.merge;
     Settings {
-        process_preview_data: s.process_preview_data,
-        announce_source_discovery: s.announce_source_discovery,
-        announce_stream_termination: s.announce_stream_termination,
-        announce_timeout: s.announce_timeout,
-        merge: merge,
         source_limit: SourceLimit::AtMost(limit),
-        discovery_expiry: s.discovery_expiry,
+        ..s
     }
 }
 
@@ -112,9 +107,10 @@ pub fn with_raw_limit(s: Settings, limit: u16) -> Settings
 pub fn with_raw_expiry(s: Settings, expiry: u32) -> Settings
     ensures { result ≡ with_expiry expiry s }
 {
-    let mut t = s;
-    t.discovery_expiry = expiry;
-    t
+    Settings {
+        discovery_expiry: expiry,
+        ..s
+    }
 }
 
 // The writer on lent bytes; the settings are left.
@@ -123,15 +119,9 @@ fn store(session: Session, lent: &mut [u8], to: Stdout, out: &mut [u8]) -> Sessi
     ensures { (m : Memory) → Carries session m out.old
         (stored lent.old session.settings (state_of session.receiver m)) result m out.new }
 {
-    let receiver = session.receiver;
-    let settings = session.settings;
-    let answer = store_settings(settings, &mut *lent);
-    let at = put_store(to, out, session.at, answer, &*lent);
-    Session {
-        receiver: receiver,
-        settings: settings,
-        at: at,
-    }
+    let answer = store_settings(session.settings, lent);
+    let at = put_store(to, out, session.at, answer, lent);
+    Session { at, ..session }
 }
 
 // As many bytes as a length of eight bits can ask for, each of them cc; the script asks for 64 at most.
@@ -147,36 +137,23 @@ fn store_on(session: Session, len: u8, to: Stdout, out: &mut [u8]) -> Session
     ensures { (m : Memory) → Carries session m out.old
         (stored (replicate len 0xCC) session.settings (state_of session.receiver m)) result m out.new }
 {
-    let n = len as usize;
     let mut lent = blank();
-    store(session, &mut lent[..n], to, out)
+    store(session, &mut lent[..len as usize], to, out)
 }
 
 // The settings that were read or, where the reader stops, those of before.
-fn settings_read(answer: LoadSettingsAnswer, before: Settings) -> Settings
-    ensures { result ≡ settings_read answer before }
-{
-    match answer {
-        LoadSettingsAnswer::Loaded(read) => read,
-        LoadSettingsAnswer::NoSettingsRecord => before,
-        LoadSettingsAnswer::UnreadableSettingsRecord => before,
-    }
-}
-
 fn load(session: Session, layouts: Layouts, bytes: &[u8], to: Stdout, out: &mut [u8]) -> Session
     requires { Ready session.at out.old }
     ensures { (m : Memory) → Carries session m out.old
         (restored layouts «bytes».now session.settings (state_of session.receiver m)) result m out.new }
 {
-    let receiver = session.receiver;
-    let before = session.settings;
     let answer = load_settings(layouts, bytes);
-    let settings = settings_read(answer, before);
+    let settings = answer.unwrap_or(session.settings);
     let at = put_load(to, out, session.at, answer);
     Session {
-        receiver: receiver,
-        settings: settings,
-        at: at,
+        settings,
+        at,
+        ..session
     }
 }
 
@@ -185,14 +162,8 @@ fn tell(session: Session, to: Stdout, out: &mut [u8]) -> Session
     ensures { (m : Memory) → Carries session m out.old
         (shown session.settings (state_of session.receiver m)) result m out.new }
 {
-    let receiver = session.receiver;
-    let settings = session.settings;
-    let at = put_settings(to, out, session.at, settings);
-    Session {
-        receiver: receiver,
-        settings: settings,
-        at: at,
-    }
+    let at = put_settings(to, out, session.at, session.settings);
+    Session { at, ..session }
 }
 
 // The settings are written, read or shown.
@@ -228,16 +199,12 @@ pub fn listen(
         (state_of session.receiver (with_listened_rows heard.old m))) result (with_listened_rows heard.new m)
         out.new }
 {
-    let r = session.receiver;
-    let settings = session.settings;
-    let a = r.listen_universes(heard, front_numbers(list, n));
-    let receiver = a.receiver;
-    let answer = a.answer;
-    let at = put_listen(to, out, session.at, answer);
+    let a = session.receiver.listen_universes(heard, front(list, n));
+    let at = put_listen(to, out, session.at, a.answer);
     Session {
-        receiver: receiver,
-        settings: settings,
-        at: at,
+        receiver: a.left,
+        at,
+        ..session
     }
 }
 
@@ -254,16 +221,12 @@ pub fn mute(
         (state_of session.receiver (with_listened_rows heard.old m))) result (with_listened_rows heard.new m)
         out.new }
 {
-    let r = session.receiver;
-    let settings = session.settings;
-    let a = r.mute_universe(heard, universe);
-    let receiver = a.receiver;
-    let answer = a.answer;
-    let at = put_mute(to, out, session.at, answer);
+    let a = session.receiver.mute_universe(heard, universe);
+    let at = put_mute(to, out, session.at, a.answer);
     Session {
-        receiver: receiver,
-        settings: settings,
-        at: at,
+        receiver: a.left,
+        at,
+        ..session
     }
 }
 
@@ -279,15 +242,9 @@ pub fn ask(
         (asked universe session.settings (state_of session.receiver (with_listened_rows heard.now m))) result
         (with_listened_rows heard.now m) out.new }
 {
-    let receiver = session.receiver;
-    let settings = session.settings;
-    let held = receiver.is_listening(heard, universe);
+    let held = session.receiver.is_listening(heard, universe);
     let at = put_flag(to, out, session.at, held);
-    Session {
-        receiver: receiver,
-        settings: settings,
-        at: at,
-    }
+    Session { at, ..session }
 }
 
 pub fn poll(
@@ -316,25 +273,21 @@ pub fn poll(
         (with_sequence_rows (sequences.lent data_pairs.new data_sources.new sync_pairs.new
         sync_sources.new) (with_waiting_rows rows.new store.new m)) out.new }
 {
-    let r = session.receiver;
-    let settings = session.settings;
-    let a = r.poll(
+    let a = session.receiver.poll(
         data_pairs,
         data_sources,
         sync_pairs,
         sync_sources,
         rows,
         store,
-        settings,
+        session.settings,
         reading,
     );
-    let receiver = a.receiver;
-    let answer = a.answer;
-    let at = put_poll(to, out, session.at, answer);
+    let at = put_poll(to, out, session.at, a.answer);
     Session {
-        receiver: receiver,
-        settings: settings,
-        at: at,
+        receiver: a.left,
+        at,
+        ..session
     }
 }
 
@@ -358,16 +311,19 @@ pub fn sweep(
         (with_discovery_rows sources.new names.new pages.new universes.new m)
         out.new }
 {
-    let r = session.receiver;
-    let settings = session.settings;
-    let a = r.remove_expired_sources(sources, names, pages, universes, settings, reading);
-    let receiver = a.receiver;
-    let answer = a.answer;
-    let at = put_expiry(to, out, session.at, answer);
+    let a = session.receiver.remove_expired_sources(
+        sources,
+        names,
+        pages,
+        universes,
+        session.settings,
+        reading,
+    );
+    let at = put_expiry(to, out, session.at, a.answer);
     Session {
-        receiver: receiver,
-        settings: settings,
-        at: at,
+        receiver: a.left,
+        at,
+        ..session
     }
 }
 
@@ -386,16 +342,12 @@ pub fn clear(
         (state_of session.receiver (with_waiting_rows rows.old store.old m))) result
         (with_waiting_rows rows.new store.new m) out.new }
 {
-    let r = session.receiver;
-    let settings = session.settings;
-    let a = r.clear_waiting_data(rows, store, universe);
-    let receiver = a.receiver;
-    let answer = a.answer;
-    let at = put_clear(to, out, session.at, answer);
+    let a = session.receiver.clear_waiting_data(rows, store, universe);
+    let at = put_clear(to, out, session.at, a.answer);
     Session {
-        receiver: receiver,
-        settings: settings,
-        at: at,
+        receiver: a.left,
+        at,
+        ..session
     }
 }
 
@@ -404,14 +356,12 @@ pub fn clear_all(session: Session, to: Stdout, out: &mut [u8]) -> Session
     ensures { (m : Memory) → Carries session m out.old
         (changed clear_all_call session.settings (state_of session.receiver m)) result m out.new }
 {
-    let r = session.receiver;
-    let settings = session.settings;
-    let receiver = r.clear_all_waiting_data();
+    let receiver = session.receiver.clear_all_waiting_data();
     let at = put_number(to, out, session.at, 0);
     Session {
-        receiver: receiver,
-        settings: settings,
-        at: at,
+        receiver,
+        at,
+        ..session
     }
 }
 
@@ -430,14 +380,12 @@ pub fn reset(session: Session, reset: Reset, to: Stdout, out: &mut [u8]) -> Sess
     ensures { (m : Memory) → Carries session m out.old
         (changed (resetting reset) session.settings (state_of session.receiver m)) result m out.new }
 {
-    let r = session.receiver;
-    let settings = session.settings;
-    let receiver = forget(r, reset);
+    let receiver = forget(session.receiver, reset);
     let at = put_number(to, out, session.at, 0);
     Session {
-        receiver: receiver,
-        settings: settings,
-        at: at,
+        receiver,
+        at,
+        ..session
     }
 }
 
@@ -468,11 +416,8 @@ pub fn step_data(
         (data_packet (packet_of line.packet (take line.count «bytes».now))) session.settings
         (state_of session.receiver m.entry)) result m.exit out.new }
 {
-    let r = session.receiver;
-    let settings = session.settings;
-    let packet = line.packet;
     let a = handle_data_packet(
-        r,
+        session.receiver,
         data_pairs,
         data_sources,
         sync_pairs,
@@ -484,19 +429,17 @@ pub fn step_data(
         names,
         pages,
         universes,
-        settings,
+        session.settings,
         line.now,
-        packet,
+        line.packet,
         front(bytes, line.count),
-        &mut *released,
+        released,
     );
-    let receiver = a.receiver;
-    let answer = a.answer;
-    let at = put_step(to, out, session.at, answer, b"", &*released);
+    let at = put_step(to, out, session.at, a.answer, b"", released);
     Session {
-        receiver: receiver,
-        settings: settings,
-        at: at,
+        receiver: a.left,
+        at,
+        ..session
     }
 }
 
@@ -526,11 +469,8 @@ pub fn step_sync(
         (sync_packet (sync_of line.packet)) session.settings (state_of session.receiver m.entry)) result m.exit
         out.new }
 {
-    let r = session.receiver;
-    let settings = session.settings;
-    let packet = line.packet;
     let a = handle_sync_packet(
-        r,
+        session.receiver,
         data_pairs,
         data_sources,
         sync_pairs,
@@ -542,18 +482,16 @@ pub fn step_sync(
         names,
         pages,
         universes,
-        settings,
+        session.settings,
         line.now,
-        packet,
-        &mut *released,
+        line.packet,
+        released,
     );
-    let receiver = a.receiver;
-    let answer = a.answer;
-    let at = put_step(to, out, session.at, answer, b"", &*released);
+    let at = put_step(to, out, session.at, a.answer, b"", released);
     Session {
-        receiver: receiver,
-        settings: settings,
-        at: at,
+        receiver: a.left,
+        at,
+        ..session
     }
 }
 
@@ -587,12 +525,9 @@ pub fn step_discovery(
         (take line.count list.now))) session.settings (state_of session.receiver m.entry)) result m.exit
         out.new }
 {
-    let r = session.receiver;
-    let settings = session.settings;
-    let packet = line.packet;
     let name = front(bytes, line.name);
     let a = handle_universe_discovery_packet(
-        r,
+        session.receiver,
         data_pairs,
         data_sources,
         sync_pairs,
@@ -604,19 +539,17 @@ pub fn step_discovery(
         names,
         pages,
         universes,
-        settings,
+        session.settings,
         line.now,
-        packet,
+        line.packet,
         name,
-        front_numbers(list, line.count),
+        front(list, line.count),
         released,
     );
-    let receiver = a.receiver;
-    let answer = a.answer;
-    let at = put_step(to, out, session.at, answer, name, released);
+    let at = put_step(to, out, session.at, a.answer, name, released);
     Session {
-        receiver: receiver,
-        settings: settings,
-        at: at,
+        receiver: a.left,
+        at,
+        ..session
     }
 }

@@ -42,21 +42,21 @@ fn put_spaced(to: Stdout, out: &mut [u8], at: usize, n: u64) -> usize
     requires { Ready at out.old }
     ensures { Tells (spaced n) out.old at out.new result }
 {
-    let a = put(to, &mut *out, at, 32);
-    put_decimal(to, &mut *out, a, n)
+    let a = put(to, out, at, b' ');
+    put_decimal(to, out, a, n)
 }
 
 fn put_pair(to: Stdout, out: &mut [u8], at: usize, mark: u8, pair: Pair) -> usize
     requires { Ready at out.old }
     ensures { Tells (pair_line mark pair) out.old at out.new result }
 {
-    let a = put(to, &mut *out, at, mark);
-    let b = put(to, &mut *out, a, 32);
-    let d = put_cid(to, &mut *out, b, pair.cid);
-    let e = put_spaced(to, &mut *out, d, pair.universe as u64);
-    let f = put_spaced(to, &mut *out, e, pair.sequence as u64);
-    let g = put_spaced(to, &mut *out, f, pair.reading);
-    put(to, &mut *out, g, 10)
+    let a = put(to, out, at, mark);
+    let b = put(to, out, a, b' ');
+    let d = put_cid(to, out, b, pair.cid);
+    let e = put_spaced(to, out, d, pair.universe as u64);
+    let f = put_spaced(to, out, e, pair.sequence as u64);
+    let g = put_spaced(to, out, f, pair.reading);
+    put(to, out, g, b'\n')
 }
 
 fn put_pairs(to: Stdout, out: &mut [u8], at: usize, mark: u8, pairs: &PairRows, n: usize) -> usize
@@ -64,12 +64,8 @@ fn put_pairs(to: Stdout, out: &mut [u8], at: usize, mark: u8, pairs: &PairRows, 
     ensures { Tells (lines (pair_line mark) (pairs_of n pairs.now)) out.old at out.new result }
 {
     let mut a = at;
-    let mut i: usize = 0;
-    while i < n {
-        let row = pairs[i];
-        let pair = pair_of(row);
-        a = put_pair(to, &mut *out, a, mark, pair);
-        i += 1;
+    for i in 0..n {
+        a = put_pair(to, out, a, mark, pair_of(pairs[i]));
     }
     a
 }
@@ -79,16 +75,12 @@ fn put_cids(to: Stdout, out: &mut [u8], at: usize, sources: &SourceRows, n: usiz
     ensures { Tells (cids_text (listed_sources_of n sources.now)) out.old at out.new result }
 {
     if n == 0 {
-        return put(to, &mut *out, at, 45);
+        return put(to, out, at, b'-');
     }
-    let first = sources[0];
-    let mut a = put_cid(to, &mut *out, at, cid_of(first));
-    let mut i: usize = 1;
-    while i < n {
-        let row = sources[i];
-        a = put(to, &mut *out, a, 44);
-        a = put_cid(to, &mut *out, a, cid_of(row));
-        i += 1;
+    let mut a = put_cid(to, out, at, cid_of(sources[0]));
+    for i in 1..n {
+        a = put(to, out, a, b',');
+        a = put_cid(to, out, a, cid_of(sources[i]));
     }
     a
 }
@@ -104,10 +96,10 @@ fn put_sources_line(
     requires { Ready at out.old × (n ≤ most_pairs) × (length sources.now ≡ most_pairs) }
     ensures { Tells (sources_line mark (listed_sources_of n sources.now)) out.old at out.new result }
 {
-    let a = put(to, &mut *out, at, mark);
-    let b = put_text(to, &mut *out, a, b"c ");
-    let d = put_cids(to, &mut *out, b, sources, n);
-    put(to, &mut *out, d, 10)
+    let a = put(to, out, at, mark);
+    let b = put_text(to, out, a, b"c ");
+    let d = put_cids(to, out, b, sources, n);
+    put(to, out, d, b'\n')
 }
 
 pub fn put_table(
@@ -124,8 +116,8 @@ pub fn put_table(
     ensures { Tells (table_text mark (table_of table pairs.now sources.now)) out.old at
         out.new result }
 {
-    let a = put_pairs(to, &mut *out, at, mark, pairs, table.count);
-    put_sources_line(to, &mut *out, a, mark, sources, table.source_count)
+    let a = put_pairs(to, out, at, mark, pairs, table.count);
+    put_sources_line(to, out, a, mark, sources, table.source_count)
 }
 
 fn put_owner(to: Stdout, out: &mut [u8], at: usize, owner: SourceCid) -> usize
@@ -133,7 +125,7 @@ fn put_owner(to: Stdout, out: &mut [u8], at: usize, owner: SourceCid) -> usize
     ensures { Tells (owner_text owner) out.old at out.new result }
 {
     match owner {
-        SourceCid::Merged => put(to, out, at, 45),
+        SourceCid::Merged => put(to, out, at, b'-'),
         SourceCid::Of(c) => put_cid(to, out, at, c),
     }
 }
@@ -142,19 +134,18 @@ fn put_entry(to: Stdout, out: &mut [u8], at: usize, d: DmxData, values: &[u8]) -
     requires { Ready at out.old }
     ensures { Tells (waiting_line (dmx d values.now)) out.old at out.new result }
 {
-    let owner = d.src_cid;
-    let a = put(to, &mut *out, at, 119);
-    let b = put_spaced(to, &mut *out, a, d.universe as u64);
-    let e = put_spaced(to, &mut *out, b, d.sync_uni as u64);
-    let f = put_spaced(to, &mut *out, e, d.priority as u64);
-    let g = put(to, &mut *out, f, 32);
-    let h = put_bit(to, &mut *out, g, d.preview);
-    let i = put(to, &mut *out, h, 32);
-    let j = put_owner(to, &mut *out, i, owner);
-    let k = put_spaced(to, &mut *out, j, d.recv_timestamp);
-    let l = put(to, &mut *out, k, 32);
-    let m = put_byte_string(to, &mut *out, l, values);
-    put(to, &mut *out, m, 10)
+    let a = put(to, out, at, b'w');
+    let b = put_spaced(to, out, a, d.universe as u64);
+    let e = put_spaced(to, out, b, d.sync_uni as u64);
+    let f = put_spaced(to, out, e, d.priority as u64);
+    let g = put(to, out, f, b' ');
+    let h = put_bit(to, out, g, d.preview);
+    let i = put(to, out, h, b' ');
+    let j = put_owner(to, out, i, d.src_cid);
+    let k = put_spaced(to, out, j, d.recv_timestamp);
+    let l = put(to, out, k, b' ');
+    let m = put_byte_string(to, out, l, values);
+    put(to, out, m, b'\n')
 }
 
 pub fn put_waiting(
@@ -170,24 +161,12 @@ pub fn put_waiting(
         out.old at out.new result }
 {
     let mut a = at;
-    let mut i: usize = 0;
-    while i < waiting.count {
+    for i in 0..waiting.count {
         let d = waiting.waiting_data(rows, i);
         let values = waiting.waiting_values(rows, store, i);
-        a = put_entry(to, &mut *out, a, d, values);
-        i += 1;
+        a = put_entry(to, out, a, d, values);
     }
     a
-}
-
-// The first n numbers, or all.
-pub fn front_numbers(list: &[u16], n: usize) -> &[u16]
-    ensures { result.now ≡ take n list.now }
-{
-    if n < list.len() {
-        return &list[..n];
-    }
-    list
 }
 
 pub fn put_listened(
@@ -200,21 +179,21 @@ pub fn put_listened(
     requires { Ready at out.old }
     ensures { Tells (listened_line (listened_of listened heard.now)) out.old at out.new result }
 {
-    let a = put_text(to, &mut *out, at, b"l ");
-    let b = put_list(to, &mut *out, a, front_numbers(heard, listened.count));
-    put(to, &mut *out, b, 10)
+    let a = put_text(to, out, at, b"l ");
+    let b = put_list(to, out, a, front(heard, listened.count));
+    put(to, out, b, b'\n')
 }
 
 fn put_page(to: Stdout, out: &mut [u8], at: usize, letter: u8, number: u64, list: &[u16]) -> usize
     requires { Ready at out.old }
     ensures { Tells (page_line letter (page number list.now)) out.old at out.new result }
 {
-    let a = put(to, &mut *out, at, letter);
-    let b = put(to, &mut *out, a, 112);
-    let d = put_spaced(to, &mut *out, b, number);
-    let e = put(to, &mut *out, d, 32);
-    let f = put_list(to, &mut *out, e, list);
-    put(to, &mut *out, f, 10)
+    let a = put(to, out, at, letter);
+    let b = put(to, out, a, b'p');
+    let d = put_spaced(to, out, b, number);
+    let e = put(to, out, d, b' ');
+    let f = put_list(to, out, e, list);
+    put(to, out, f, b'\n')
 }
 
 // The k-th page of a source.
@@ -236,8 +215,7 @@ fn put_page_at(
         first_page)) out.old at out.new result }
 {
     let r = place_of_page(discovery, pages, mark, cid, k);
-    let row = pages[r];
-    let head = page_head(row);
+    let head = page_head(pages[r]);
     let list = page_universes(discovery, pages, universes, r);
     put_page(to, out, at, letter, head.number, list)
 }
@@ -260,12 +238,10 @@ fn put_pages(
         out.old at out.new result }
 {
     let mut a = at;
-    let mut k: usize = 0;
-    while k < total {
+    for k in 0..total {
         a = put_page_at(
-            to, &mut *out, a, letter, mark, cid, k, discovery, pages, universes,
+            to, out, a, letter, mark, cid, k, discovery, pages, universes,
         );
-        k += 1;
     }
     a
 }
@@ -283,16 +259,16 @@ fn put_head(
     ensures { Tells (head_line letter head.cid (take head.name_length name_row) head.last_page
         head.reading total) out.old at out.new result }
 {
-    let a = put(to, &mut *out, at, letter);
-    let b = put(to, &mut *out, a, 32);
-    let d = put_cid(to, &mut *out, b, head.cid);
-    let e = put(to, &mut *out, d, 32);
+    let a = put(to, out, at, letter);
+    let b = put(to, out, a, b' ');
+    let d = put_cid(to, out, b, head.cid);
+    let e = put(to, out, d, b' ');
     let name = front(&name_row, head.name_length as usize);
-    let f = put_byte_string(to, &mut *out, e, name);
-    let g = put_spaced(to, &mut *out, f, head.last_page);
-    let h = put_spaced(to, &mut *out, g, head.reading);
-    let i = put_spaced(to, &mut *out, h, total as u64);
-    put(to, &mut *out, i, 10)
+    let f = put_byte_string(to, out, e, name);
+    let g = put_spaced(to, out, f, head.last_page);
+    let h = put_spaced(to, out, g, head.reading);
+    let i = put_spaced(to, out, h, total as u64);
+    put(to, out, i, b'\n')
 }
 
 // The k-th source of a mark, with its pages.
@@ -316,14 +292,12 @@ fn put_source_at(
         first_source)) out.old at out.new result }
 {
     let r = source_place(discovery, sources, mark, k);
-    let row = sources[r];
-    let head = source_head(row);
+    let head = source_head(sources[r]);
     let name_row = names[r];
-    let cid = head.cid;
-    let total = page_total(discovery, pages, mark, cid);
-    let a = put_head(to, &mut *out, at, letter, head, name_row, total);
+    let total = page_total(discovery, pages, mark, head.cid);
+    let a = put_head(to, out, at, letter, head, name_row, total);
     put_pages(
-        to, &mut *out, a, letter, mark, cid, total, discovery, pages, universes,
+        to, out, a, letter, mark, head.cid, total, discovery, pages, universes,
     )
 }
 
@@ -347,12 +321,10 @@ fn put_sources(
         out.old at out.new result }
 {
     let mut a = at;
-    let mut k: usize = 0;
-    while k < count {
+    for k in 0..count {
         a = put_source_at(
-            to, &mut *out, a, letter, mark, k, discovery, sources, names, pages, universes,
+            to, out, a, letter, mark, k, discovery, sources, names, pages, universes,
         );
-        k += 1;
     }
     a
 }
@@ -374,11 +346,11 @@ fn put_discovered(
 {
     let partial = partial_count(discovery, sources);
     let a = put_sources(
-        to, &mut *out, at, 112, 0, partial, discovery, sources, names, pages, universes,
+        to, out, at, b'p', 0, partial, discovery, sources, names, pages, universes,
     );
     let listed = listed_count(discovery, sources);
     put_sources(
-        to, &mut *out, a, 113, 1, listed, discovery, sources, names, pages, universes,
+        to, out, a, b'q', 1, listed, discovery, sources, names, pages, universes,
     )
 }
 
@@ -405,16 +377,29 @@ pub fn dump(
     ensures { let m = shared_lent data_pairs data_sources sync_pairs sync_sources rows store heard sources names pages universes in
         Tells (dump_text (state_of receiver m.entry)) out.old at out.new result }
 {
-    let q = receiver.sequences;
-    let data = q.data;
-    let sync = q.sync;
-    let a = put_table(to, &mut *out, at, 100, data.table, data_pairs, data_sources);
-    let b = put_table(to, &mut *out, a, 121, sync.table, sync_pairs, sync_sources);
-    let d = put_waiting(to, &mut *out, b, receiver.waiting, rows, store);
-    let e = put_listened(to, &mut *out, d, receiver.listened, heard);
+    let a = put_table(
+        to,
+        out,
+        at,
+        b'd',
+        receiver.sequences.data.table,
+        data_pairs,
+        data_sources,
+    );
+    let b = put_table(
+        to,
+        out,
+        a,
+        b'y',
+        receiver.sequences.sync.table,
+        sync_pairs,
+        sync_sources,
+    );
+    let d = put_waiting(to, out, b, receiver.waiting, rows, store);
+    let e = put_listened(to, out, d, receiver.listened, heard);
     let f = put_discovered(
         to,
-        &mut *out,
+        out,
         e,
         receiver.discovery,
         sources,
@@ -422,5 +407,5 @@ pub fn dump(
         pages,
         universes,
     );
-    put_text(to, &mut *out, f, b".\n")
+    put_text(to, out, f, b".\n")
 }

@@ -34,10 +34,9 @@ fn main(rt: HostRuntime) {
     let mut released = [0u8; RELEASE_LENGTH];
     let mut out = [0u8; 65536];
     let receiver = Receiver::new(&mut heard);
-    let settings = Settings::new();
     let session = Session {
-        receiver: receiver,
-        settings: settings,
+        receiver,
+        settings: Settings::new(),
         at: 0,
     };
     run(

@@ -29,14 +29,8 @@ fn refuse(session: Session, to: Stdout, out: &mut [u8]) -> Session
     ensures { (m : Memory) → Carries session m out.old
         (refused session.settings (state_of session.receiver m)) result m out.new }
 {
-    let receiver = session.receiver;
-    let settings = session.settings;
     let at = put_text(to, out, session.at, b"error\n");
-    Session {
-        receiver: receiver,
-        settings: settings,
-        at: at,
-    }
+    Session { at, ..session }
 }
 
 fn adjust(session: Session, setting: Setting, to: Stdout, out: &mut [u8]) -> Session
@@ -88,13 +82,11 @@ fn show(
         Carries session m.entry out.old (dumped session.settings (state_of session.receiver m.entry)) result
         m.entry out.new }
 {
-    let receiver = session.receiver;
-    let settings = session.settings;
     let at = dump(
         to,
         out,
         session.at,
-        receiver,
+        session.receiver,
         data_pairs,
         data_sources,
         sync_pairs,
@@ -107,11 +99,7 @@ fn show(
         pages,
         universes,
     );
-    Session {
-        receiver: receiver,
-        settings: settings,
-        at: at,
-    }
+    Session { at, ..session }
 }
 
 fn execute(
@@ -151,8 +139,8 @@ fn execute(
             rows,
             store,
             heard,
-            &*sources,
-            &*names,
+            sources,
+            names,
             pages,
             universes,
             line,
@@ -169,11 +157,11 @@ fn execute(
             sync_sources,
             rows,
             store,
-            &*heard,
-            &*sources,
-            &*names,
-            &*pages,
-            &*universes,
+            heard,
+            sources,
+            names,
+            pages,
+            universes,
             line,
             released,
             to,
@@ -187,7 +175,7 @@ fn execute(
             sync_sources,
             rows,
             store,
-            &*heard,
+            heard,
             sources,
             names,
             pages,
@@ -195,23 +183,23 @@ fn execute(
             line,
             bytes,
             list,
-            &*released,
+            released,
             to,
             out,
         ),
         Command::Dump => show(
             session,
-            &*data_pairs,
-            &*data_sources,
-            &*sync_pairs,
-            &*sync_sources,
-            &*rows,
-            &*store,
-            &*heard,
-            &*sources,
-            &*names,
-            &*pages,
-            &*universes,
+            data_pairs,
+            data_sources,
+            sync_pairs,
+            sync_sources,
+            rows,
+            store,
+            heard,
+            sources,
+            names,
+            pages,
+            universes,
             to,
             out,
         ),
@@ -231,13 +219,12 @@ fn execute(
         Command::Clear(universe) => clear(session, rows, store, universe, to, out),
         Command::Listen(n) => listen(session, heard, list, n, to, out),
         Command::Mute(universe) => mute(session, heard, universe, to, out),
-        Command::Listening(universe) => ask(session, &*heard, universe, to, out),
+        Command::Listening(universe) => ask(session, heard, universe, to, out),
         Command::Fresh => begin(session, heard, to, out),
         Command::Set(setting) => adjust(session, setting, to, out),
         Command::Settings(line) => carry_settings(session, line, bytes, to, out),
         Command::ClearAll => clear_all(session, to, out),
         Command::Reset(what) => reset(session, what, to, out),
-        Command::Error => refuse(session, to, out),
     }
 }
 
@@ -245,10 +232,10 @@ fn execute(
 fn is_silent(line: &[u8]) -> bool
     ensures { result ≡ silent line.now }
 {
-    if line.len() == 0 {
-        return true;
+    match line {
+        [] => true,
+        [first, ..] => *first == b'#',
     }
-    line[0] == 35
 }
 
 // A line, or the front of one that is too long.
@@ -286,7 +273,9 @@ fn carry_line(
     if long {
         return refuse(session, to, out);
     }
-    let command = parse_line(line, &mut *bytes, &mut *list);
+    let Some(command) = parse_line(line, bytes, list) else {
+        return refuse(session, to, out);
+    };
     execute(
         session,
         data_pairs,
@@ -301,8 +290,8 @@ fn carry_line(
         pages,
         universes,
         command,
-        &*bytes,
-        &*list,
+        bytes,
+        list,
         released,
         to,
         out,
@@ -345,16 +334,15 @@ fn take_line(
     ensures { let m = lent data_pairs data_sources sync_pairs sync_sources rows store heard sources names pages universes in
         Runs result.session result.input m.exit chunk.new out.new }
 {
-    let line = next_line(from, input, &mut *chunk, &mut *text);
-    let next = line.input;
+    let line = next_line(from, input, chunk, text);
     if line.ended {
         return Turn {
-            session: session,
-            input: next,
+            session,
+            input: line.input,
             ended: true,
         };
     }
-    let kept = without_return(&*text, line.length);
+    let kept = without_return(text, line.length);
     let long = is_longer(line.long, MOST_LINE, kept.len());
     let after = carry_line(
         session,
@@ -379,17 +367,9 @@ fn take_line(
     );
     Turn {
         session: after,
-        input: next,
-        ended: has_failed(&*out),
+        input: line.input,
+        ended: has_failed(out),
     }
-}
-
-// Was anything not written, before or now.
-fn is_lost(before: bool, written: bool) -> bool {
-    if before {
-        return true;
-    }
-    !written
 }
 
 // What could not be read or written is said on standard error.
@@ -402,7 +382,7 @@ fn report(errors: Stderr, unread: bool, unwritten: bool) {
     }
 }
 
-// Line after line. Nothing says that an input ends, so the lines are counted down from a number that no run uses up.
+// Line after line. Nothing says that an input ends, so the lines are counted, up to a number that no run comes to.
 pub fn run(
     session: Session,
     data_pairs: &mut PairRows,
@@ -431,48 +411,38 @@ pub fn run(
 {
     let first = Input::new();
     let mut t = Turn {
-        session: session,
+        session,
         input: first,
         ended: false,
     };
-    let mut lines: u64 = 0xFFFF_FFFF_FFFF_FFFF;
-    while 0 < lines {
-        let s = t.session;
-        let i = t.input;
+    for _ in 0..u64::MAX {
         t = take_line(
-            s,
-            i,
-            &mut *data_pairs,
-            &mut *data_sources,
-            &mut *sync_pairs,
-            &mut *sync_sources,
-            &mut *rows,
-            &mut *store,
-            &mut *heard,
-            &mut *sources,
-            &mut *names,
-            &mut *pages,
-            &mut *universes,
+            t.session,
+            t.input,
+            data_pairs,
+            data_sources,
+            sync_pairs,
+            sync_sources,
+            rows,
+            store,
+            heard,
+            sources,
+            names,
+            pages,
+            universes,
             from,
-            &mut *chunk,
-            &mut *text,
-            &mut *bytes,
-            &mut *list,
-            &mut *released,
+            chunk,
+            text,
+            bytes,
+            list,
+            released,
             to,
-            &mut *out,
+            out,
         );
         if t.ended {
-            lines = 0;
-        } else {
-            lines -= 1;
+            break;
         }
     }
-    let last = t.session;
-    let input = t.input;
-    report(
-        errors,
-        input.failed,
-        is_lost(has_failed(&*out), flush(to, &*out, last.at)),
-    );
+    let written = flush(to, out, t.session.at);
+    report(errors, t.input.failed, has_failed(out) || !written);
 }

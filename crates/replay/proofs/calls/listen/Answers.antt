@@ -14,5 +14,5 @@ returns c =
     λ m.
     let v = c.args in
     let l = c.listen_universes-a in
-    let d = subst (λ (us : List ℕ). Does (listen_call us) listen_number v.session.receiver (with_listened_rows v.heard.now m) l.result.receiver (with_listened_rows l.new.heard m) l.result.answer) c.front_numbers.ensures (l.ensures m) in
+    let d = subst (λ (us : List ℕ). Does (listen_call us) listen_number v.session.receiver (with_listened_rows v.heard.now m) l.result.left (with_listened_rows l.new.heard m) l.result.answer) c.front.ensures (l.ensures m) in
     carries_call listen_values d refl c.put_listen-at.ensures

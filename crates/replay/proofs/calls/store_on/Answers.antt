@@ -10,11 +10,6 @@ use Rattle.replay.specs.Session.{stored}
 use Rattle.replay.specs.SessionLaws.{front_alike, carries_as}
 use Rattle.replay.proofs.calls.store_on.Goals as goal
 
-pub slice_bounds-store-end : goal.slice_bounds-store-end
-slice_bounds-store-end c =
-    let n = c.args.len in
-    sym (ap length (front_alike 255 204 n c.blank-lent.ensures (omega arith)) ∙ length-replicate n 204)
-
 pub returns : goal.returns
 returns c =
     λ m.

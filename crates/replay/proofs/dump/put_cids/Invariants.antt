@@ -10,7 +10,4 @@ use Rattle.replay.specs.Dump.{cids_tail}
 use Rattle.replay.proofs.dump.put_cids.Given as goal
 
 abbrev pub invariant-loop-i : goal.invariant-loop-i
-invariant-loop-i l = (1 ≤ l.i) × (l.i ≤ l.n) × (length l.out ≡ length l.initial.out) × Tells (cids_tail (map cid_of (drop 1 (take l.i l.sources)))) l.initial.out l.initial.a l.out l.a
-
-abbrev pub decreases-loop-i : goal.decreases-loop-i
-decreases-loop-i l = l.n - l.i
+invariant-loop-i l = Tells (cids_tail (map cid_of (drop 1 (take l.i l.sources)))) l.initial.out l.initial.a l.out l.a

@@ -7,4 +7,4 @@ use Rattle.replay.proofs.dump.put_listened.Goals as goal
 
 pub returns : goal.returns
 returns c =
-    tells_then c.put_text-a.ensures (tells_then (tells_as (ap list_text c.front_numbers.ensures) c.put_list-b.ensures) c.put.ensures)
+    tells_then c.put_text-a.ensures (tells_then (tells_as (ap list_text c.front.ensures) c.put_list-b.ensures) c.put.ensures)

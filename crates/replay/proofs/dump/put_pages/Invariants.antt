@@ -9,7 +9,4 @@ use Rattle.replay.specs.Dump.{lines, page_line}
 use Rattle.replay.proofs.dump.put_pages.Given as goal
 
 abbrev pub invariant-loop-k : goal.invariant-loop-k
-invariant-loop-k l = (l.k ≤ l.total) × (length l.out ≡ length l.initial.out) × Tells (lines (page_line l.letter) (take l.k (pages_of l.mark l.cid l.discovery l.pages l.universes))) l.initial.out l.at l.out l.a
-
-abbrev pub decreases-loop-k : goal.decreases-loop-k
-decreases-loop-k l = l.total - l.k
+invariant-loop-k l = Tells (lines (page_line l.letter) (take l.k (pages_of l.mark l.cid l.discovery l.pages l.universes))) l.initial.out l.at l.out l.a

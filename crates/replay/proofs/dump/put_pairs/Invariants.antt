@@ -9,7 +9,4 @@ use Rattle.replay.specs.Dump.{lines, pair_line}
 use Rattle.replay.proofs.dump.put_pairs.Given as goal
 
 abbrev pub invariant-loop-i : goal.invariant-loop-i
-invariant-loop-i l = (l.i ≤ l.n) × (length l.out ≡ length l.initial.out) × Tells (lines (pair_line l.mark) (pairs_of l.i l.pairs)) l.initial.out l.at l.out l.a
-
-abbrev pub decreases-loop-i : goal.decreases-loop-i
-decreases-loop-i l = l.n - l.i
+invariant-loop-i l = Tells (lines (pair_line l.mark) (pairs_of l.i l.pairs)) l.initial.out l.at l.out l.a

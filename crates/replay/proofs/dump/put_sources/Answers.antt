@@ -12,14 +12,14 @@ use Rattle.replay.proofs.dump.put_sources.Goals as goal
 
 pub loop-k-init : goal.loop-k-init
 unfolding lines
-loop-k-init c = (search rules, refl, tells_none c.args.out.now c.args.at c.requires.0)
+loop-k-init c = tells_none c.args.out.now c.args.at c.requires.0
 
 pub put_source_at-a-requires : goal.put_source_at-a-requires
 put_source_at-a-requires c =
     let l = c.loop-k in
     let t = c.loop-k-test.true in
     let p = c.requires.2 in
-    (l.invariant.2.ready, c.requires.1, omega arith)
+    (l.invariant.ready, c.requires.1, omega arith)
 
 pub loop-k-preserved : goal.loop-k-preserved
 loop-k-preserved c =
@@ -27,7 +27,7 @@ loop-k-preserved c =
     let l = c.loop-k in
     let t = c.loop-k-test.true in
     let p = c.requires.2 in
-    (omega arith, search rules, tells_line (source_text v.letter) (sources_of v.mark v.discovery v.sources.now v.names.now v.pages.now v.universes.now) l.k first_source (omega arith) l.invariant.2 c.put_source_at-a.ensures)
+    tells_line (source_text v.letter) (sources_of v.mark v.discovery v.sources.now v.names.now v.pages.now v.universes.now) l.k first_source (omega arith) l.invariant c.put_source_at-a.ensures
 
 pub returns : goal.returns
 returns c =
@@ -35,4 +35,4 @@ returns c =
     let l = c.loop-k in
     let t = c.loop-k-test.false in
     let p = c.requires.2 in
-    tells_as (ap (lines (source_text v.letter)) (take_all l.k (sources_of v.mark v.discovery v.sources.now v.names.now v.pages.now v.universes.now) (omega arith))) l.invariant.2
+    tells_as (ap (lines (source_text v.letter)) (take_all l.k (sources_of v.mark v.discovery v.sources.now v.names.now v.pages.now v.universes.now) (omega arith))) l.invariant

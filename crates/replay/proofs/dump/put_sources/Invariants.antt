@@ -9,7 +9,4 @@ use Rattle.replay.specs.Dump.{lines, source_text}
 use Rattle.replay.proofs.dump.put_sources.Given as goal
 
 abbrev pub invariant-loop-k : goal.invariant-loop-k
-invariant-loop-k l = (l.k ≤ l.count) × (length l.out ≡ length l.initial.out) × Tells (lines (source_text l.letter) (take l.k (sources_of l.mark l.discovery l.sources l.names l.pages l.universes))) l.initial.out l.at l.out l.a
-
-abbrev pub decreases-loop-k : goal.decreases-loop-k
-decreases-loop-k l = l.count - l.k
+invariant-loop-k l = Tells (lines (source_text l.letter) (take l.k (sources_of l.mark l.discovery l.sources l.names l.pages l.universes))) l.initial.out l.at l.out l.a

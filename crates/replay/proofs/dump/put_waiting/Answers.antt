@@ -14,7 +14,7 @@ use Rattle.replay.proofs.dump.put_waiting.Goals as goal
 
 pub loop-i-init : goal.loop-i-init
 unfolding lines
-loop-i-init c = (search rules, refl, tells_none c.args.out.now c.args.at c.requires.0)
+loop-i-init c = tells_none c.args.out.now c.args.at c.requires.0
 
 pub loop-i-preserved : goal.loop-i-preserved
 loop-i-preserved c =
@@ -26,7 +26,7 @@ loop-i-preserved c =
     let t = c.loop-i-test.true in
     let i : l.i < length w = omega arith in
     let e = entry_same c.waiting_data-d.result c.waiting_values-values.result.now (get_or w l.i nothing) (c.waiting_data-d.ensures v.store.now) c.waiting_values-values.ensures in
-    (omega arith, search rules, tells_line waiting_line w l.i nothing i l.invariant.2 (tells_as (ap waiting_line e) c.put_entry-a.ensures))
+    tells_line waiting_line w l.i nothing i l.invariant (tells_as (ap waiting_line e) c.put_entry-a.ensures)
 
 pub returns : goal.returns
 returns c =
@@ -35,4 +35,4 @@ returns c =
     let w = waiting_of v.waiting.count v.rows.now v.store.now in
     let n = length_waiting v.waiting.count v.rows.now v.store.now k.count_fits k.room.rows_length in
     let t = c.loop-i-test.false in
-    tells_as (ap (lines waiting_line) (take_all c.loop-i.i w (omega arith))) c.loop-i.invariant.2
+    tells_as (ap (lines waiting_line) (take_all c.loop-i.i w (omega arith))) c.loop-i.invariant

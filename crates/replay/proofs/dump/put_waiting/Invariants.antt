@@ -9,7 +9,4 @@ use Rattle.replay.specs.Dump.{lines, waiting_line}
 use Rattle.replay.proofs.dump.put_waiting.Given as goal
 
 abbrev pub invariant-loop-i : goal.invariant-loop-i
-invariant-loop-i l = (l.i ≤ l.waiting.count) × (length l.out ≡ length l.initial.out) × Tells (lines waiting_line (take l.i (waiting_of l.waiting.count l.rows l.store))) l.initial.out l.at l.out l.a
-
-abbrev pub decreases-loop-i : goal.decreases-loop-i
-decreases-loop-i l = l.waiting.count - l.i
+invariant-loop-i l = Tells (lines waiting_line (take l.i (waiting_of l.waiting.count l.rows l.store))) l.initial.out l.at l.out l.a

@@ -7,30 +7,6 @@ use Rattle.replay.specs.Session.{carried}
 use Rattle.replay.specs.SessionLaws.{carries_as}
 use Rattle.replay.proofs.run.execute.Goals as goal
 
-pub returns-in-Data : goal.returns-in-Data
-returns-in-Data c =
-    let m = memory c.args.data_pairs.now c.args.data_sources.now c.args.sync_pairs.now c.args.sync_sources.now c.args.rows.now c.args.store.now c.args.heard.now c.args.sources.now c.args.names.now c.args.pages.now c.args.universes.now in
-    let f = λ (x : Command). carried m c.args.released.now c.args.bytes.now c.args.list.now x c.args.session.settings (state_of c.args.session.receiver m) in
-    carries_as (ap f (sym c.in-Data.is)) c.step_data.ensures
-
-pub returns-in-Sync : goal.returns-in-Sync
-returns-in-Sync c =
-    let m = memory c.args.data_pairs.now c.args.data_sources.now c.args.sync_pairs.now c.args.sync_sources.now c.args.rows.now c.args.store.now c.args.heard.now c.args.sources.now c.args.names.now c.args.pages.now c.args.universes.now in
-    let f = λ (x : Command). carried m c.args.released.now c.args.bytes.now c.args.list.now x c.args.session.settings (state_of c.args.session.receiver m) in
-    carries_as (ap f (sym c.in-Sync.is)) c.step_sync.ensures
-
-pub returns-in-Discovery : goal.returns-in-Discovery
-returns-in-Discovery c =
-    let m = memory c.args.data_pairs.now c.args.data_sources.now c.args.sync_pairs.now c.args.sync_sources.now c.args.rows.now c.args.store.now c.args.heard.now c.args.sources.now c.args.names.now c.args.pages.now c.args.universes.now in
-    let f = λ (x : Command). carried m c.args.released.now c.args.bytes.now c.args.list.now x c.args.session.settings (state_of c.args.session.receiver m) in
-    carries_as (ap f (sym c.in-Discovery.is)) c.step_discovery.ensures
-
-pub returns-in-Dump : goal.returns-in-Dump
-returns-in-Dump c =
-    let m = memory c.args.data_pairs.now c.args.data_sources.now c.args.sync_pairs.now c.args.sync_sources.now c.args.rows.now c.args.store.now c.args.heard.now c.args.sources.now c.args.names.now c.args.pages.now c.args.universes.now in
-    let f = λ (x : Command). carried m c.args.released.now c.args.bytes.now c.args.list.now x c.args.session.settings (state_of c.args.session.receiver m) in
-    carries_as (ap f (sym c.in-Dump.is)) c.show.ensures
-
 pub returns-in-Poll : goal.returns-in-Poll
 returns-in-Poll c =
     let m = memory c.args.data_pairs.now c.args.data_sources.now c.args.sync_pairs.now c.args.sync_sources.now c.args.rows.now c.args.store.now c.args.heard.now c.args.sources.now c.args.names.now c.args.pages.now c.args.universes.now in
@@ -96,9 +72,3 @@ returns-in-Reset c =
     let m = memory c.args.data_pairs.now c.args.data_sources.now c.args.sync_pairs.now c.args.sync_sources.now c.args.rows.now c.args.store.now c.args.heard.now c.args.sources.now c.args.names.now c.args.pages.now c.args.universes.now in
     let f = λ (x : Command). carried m c.args.released.now c.args.bytes.now c.args.list.now x c.args.session.settings (state_of c.args.session.receiver m) in
     carries_as (ap f (sym c.in-Reset.is)) (c.reset.ensures m)
-
-pub returns-in-Error : goal.returns-in-Error
-returns-in-Error c =
-    let m = memory c.args.data_pairs.now c.args.data_sources.now c.args.sync_pairs.now c.args.sync_sources.now c.args.rows.now c.args.store.now c.args.heard.now c.args.sources.now c.args.names.now c.args.pages.now c.args.universes.now in
-    let f = λ (x : Command). carried m c.args.released.now c.args.bytes.now c.args.list.now x c.args.session.settings (state_of c.args.session.receiver m) in
-    carries_as (ap f (sym c.in-Error.is)) (c.refuse.ensures m)

@@ -1,8 +1,0 @@
--- The receiver is as it was.
--- Assumes nothing.
-use mathlib.Core.Path.{refl}
-use Rattle.replay.specs.SessionLaws.{carries_same}
-use Rattle.replay.proofs.run.refuse.Goals as goal
-
-pub returns : goal.returns
-returns c = λ m. carries_same refl refl c.put_text-at.ensures
