@@ -1,6 +1,7 @@
 -- One law for each return of a step.
 -- Assumes nothing.
-use Rattle.std.specs.Prelude.{◌≡◌, refl, Bool, true, false, List, [], ℕ}
+use Rattle.std.specs.Prelude.{◌≡◌, refl, Bool, true, false, List, [], ℕ, None}
+use Rattle.std.specs.Prelude as rust
 use Rattle.std.proofs.Common.{sym, ap, subst, ◌∙◌, arith}
 use Rattle.std.proofs.Math.Option.{Option}
 use Rattle.laws.specs.Cases.{missing}
@@ -9,8 +10,6 @@ use Rattle.settings.specs.declared.Settings.{Settings}
 use Rattle.waiting.proofs.Laws.{over_none}
 use Rattle.waiting_store.specs.Entries.{lent_then}
 use Rattle.discovery_pages.specs.Lent as pool
-use Rattle.arrivals.specs.declared.Short.{Short}
-use Rattle.arrivals.specs.declared.Short.TheVariants as short
 use Rattle.model.specs.declared.StepAnswer.{StepAnswer}
 use Rattle.model.specs.declared.StepAnswer.TheVariants as says
 use Rattle.model.specs.Packet.{DataPacket, Packet, data_packet, too_long}
@@ -51,7 +50,7 @@ module _ (S : Settings) (now : ℕ) (p : Packet) (r : Receiver) (m : Memory) (ou
 
 -- ── the short way of a data packet ──
 module _ (S : Settings) (now : ℕ) (d : DataPacket) (r : Receiver) (m : Memory) (out : List ℕ) where
-  pub steps_short : (long : Option ℕ) (m' : Memory) (out' : List ℕ) (a : Short) → too_long (data_packet d) ≡ long → Ready S now long r (space_in m out) → TakesShort S now d r m out m' out' a
+  pub steps_short : (long : Option ℕ) (m' : Memory) (out' : List ℕ) (a : rust.Option ℕ) → too_long (data_packet d) ≡ long → Ready S now long r (space_in m out) → TakesShort S now d r m out m' out' a
       → StepsShort S now d r m out m' out' a
   steps_short long m' out' a l y t = record {
     steps = λ b e k.
@@ -61,14 +60,14 @@ module _ (S : Settings) (now : ℕ) (d : DataPacket) (r : Receiver) (m : Memory)
     left = t.left;
   }
 
-  pub steps_short_nothing : StepsShort S now d r m out m out short.Left
+  pub steps_short_nothing : StepsShort S now d r m out m out None
   steps_short_nothing = record {
     steps = λ b e. let z : ◌≡◌ {A = ℕ} 0 1 = cc in absurd (omega arith);
     left = λ e. (refl, refl);
   }
 
   -- another packet: the step in full, from the same memory
-  pub steps_full : (m' : Memory) (out' : List ℕ) (a : Short) (r₂ : Receiver) (m₂ : Memory) (out₂ : List ℕ) (w : StepAnswer) → StepsShort S now d r m out m' out' a → a ≡ short.Left
+  pub steps_full : (m' : Memory) (out' : List ℕ) (a : rust.Option ℕ) (r₂ : Receiver) (m₂ : Memory) (out₂ : List ℕ) (w : StepAnswer) → StepsShort S now d r m out m' out' a → a ≡ None
       → Steps S now (data_packet d) r m' out' r₂ m₂ out₂ w → Steps S now (data_packet d) r m out r₂ m₂ out₂ w
   steps_full m' out' a r₂ m₂ out₂ w s e t =
       let y = s.left e in

@@ -1,6 +1,6 @@
 -- What a step promises.
 -- Assumes nothing.
-use Rattle.std.specs.Prelude.{◌≡◌, List, ℕ}
+use Rattle.std.specs.Prelude.{◌≡◌, List, ℕ, Option, Some, None}
 use Rattle.std.proofs.Math.Option.{some}
 use Rattle.rules.specs.Answer.{first_of}
 use Rattle.settings.specs.declared.Settings.{Settings}
@@ -8,8 +8,6 @@ use Rattle.merge.specs.Merge.{Dmx}
 use Rattle.waiting.specs.Records.{records, over}
 use Rattle.waiting_store.specs.Entries as waiting
 use Rattle.discovery_pages.specs.Lent as pool
-use Rattle.arrivals.specs.declared.Short.{Short}
-use Rattle.arrivals.specs.declared.Short.TheVariants as short
 use Rattle.model.specs.declared.StepAnswer.{StepAnswer}
 use Rattle.model.specs.declared.StepAnswer.TheVariants as says
 use Rattle.model.specs.Packet.{DataPacket, Packet, data_packet, too_long}
@@ -28,6 +26,6 @@ pub record Steps (S : Settings) (now : ℕ) (p : Packet) (r : Receiver) (m : Mem
   pub lent_pages : pool.Lent m.universes m'.universes
 
 -- the short way of a data packet: a whole step, or all is left
-pub record StepsShort (S : Settings) (now : ℕ) (d : DataPacket) (r : Receiver) (m : Memory) (out : List ℕ) (m' : Memory) (out' : List ℕ) (answer : Short) : Type 0 where
-  pub steps : (bytes : ℕ) → answer ≡ short.Released bytes → Kept r m → Steps S now (data_packet d) r m out (reading_noted now r) m' out' (says.Released 1 bytes)
-  pub left : answer ≡ short.Left → (m' ≡ m) × (out' ≡ out)
+pub record StepsShort (S : Settings) (now : ℕ) (d : DataPacket) (r : Receiver) (m : Memory) (out : List ℕ) (m' : Memory) (out' : List ℕ) (answer : Option ℕ) : Type 0 where
+  pub steps : (bytes : ℕ) → answer ≡ Some bytes → Kept r m → Steps S now (data_packet d) r m out (reading_noted now r) m' out' (says.Released 1 bytes)
+  pub left : answer ≡ None → (m' ≡ m) × (out' ≡ out)

@@ -13,9 +13,9 @@ ghost use Rattle.receiver.specs.Promises.{data_packet_lent_in, data_packet_lent,
 ghost use Rattle.packets.specs.View.{announcement_of};
 ghost use Rattle.handlers.specs.View.{Steps, StepsShort};
 
-use arrivals::Short;
 use discovery_rows::{HeadRows, NameRows, PageRows};
-use lengths::{Measured, test_announcement, test_values};
+use laws::After;
+use lengths::{test_announcement, test_values};
 use listening::ListenedUniverses;
 use model::StepAnswer;
 use opening::{is_ready, open};
@@ -50,53 +50,46 @@ fn step_data(
         (data_packet_lent_in data_pairs data_sources sync_pairs sync_sources rows store heard sources names pages universes) }
     ensures { let m = data_packet_lent data_pairs data_sources sync_pairs sync_sources rows store heard sources names pages universes in
         Steps settings reading (data_packet (packet_of packet values.now))
-        receiver m.entry out.old result.receiver m.exit out.new result.answer }
+        receiver m.entry out.old result.left m.exit out.new result.answer }
 {
-    let part = test_values(values);
-    let o = open(
+    match open(
         receiver,
-        &mut *data_pairs,
-        &mut *data_sources,
-        &mut *sync_pairs,
-        &mut *sync_sources,
-        &mut *rows,
-        &mut *store,
-        &*universes,
-        settings,
-        reading,
-        part,
-        &*out,
-    );
-    let opened = o.receiver;
-    if o.stopped {
-        let answer = o.answer;
-        return Handled {
-            receiver: opened,
-            answer: answer,
-        };
-    }
-    take_data(
-        opened,
         data_pairs,
         data_sources,
         sync_pairs,
         sync_sources,
         rows,
         store,
-        heard,
-        sources,
-        names,
-        pages,
         universes,
         settings,
         reading,
-        packet,
-        values,
+        test_values(values),
         out,
-    )
+    ) {
+        Ok(opened) => take_data(
+            opened,
+            data_pairs,
+            data_sources,
+            sync_pairs,
+            sync_sources,
+            rows,
+            store,
+            heard,
+            sources,
+            names,
+            pages,
+            universes,
+            settings,
+            reading,
+            packet,
+            values,
+            out,
+        ),
+        Err(stopped) => stopped,
+    }
 }
 
-// The short way of a step on a data packet, where the opening has nothing to do. Otherwise all is left.
+// The short way of a step on a data packet, where the opening has nothing to do. Answers the record's length; otherwise all is left.
 fn step_short(
     receiver: Receiver,
     data_pairs: &mut PairRows,
@@ -109,7 +102,7 @@ fn step_short(
     packet: DataPacket,
     values: &[u8],
     out: &mut [u8],
-) -> Short
+) -> Option<usize>
     requires { pairs.Kept receiver.sequences.«data».table data_pairs.old data_sources.now × listening.Kept receiver.listened heard.now }
     ensures { (rest : Memory) (rows sources names pages : Rows) →
         let m = data_lent data_pairs data_sources (listened_lent_shared heard
@@ -117,24 +110,30 @@ fn step_short(
         StepsShort settings reading (packet_of packet values.now)
         receiver m.entry out.old m.exit out.new result }
 {
-    if packet.address != 0 {
-        return Short::Left;
-    }
-    let part = test_values(values);
-    if is_ready(receiver, store, universes, settings, reading, part, &*out) {
-        return take_short(
+    if packet.address != 0
+        || !is_ready(
             receiver,
-            data_pairs,
-            data_sources,
-            heard,
+            store,
+            universes,
             settings,
             reading,
-            packet,
-            values,
+            test_values(values),
             out,
-        );
+        )
+    {
+        return None;
     }
-    Short::Left
+    take_short(
+        receiver,
+        data_pairs,
+        data_sources,
+        heard,
+        settings,
+        reading,
+        packet,
+        values,
+        out,
+    )
 }
 
 // A step on a data packet.
@@ -161,22 +160,26 @@ pub fn handle_data_packet(
         (data_packet_lent_in data_pairs data_sources sync_pairs sync_sources rows store heard sources names pages universes) }
     ensures { let m = data_packet_lent data_pairs data_sources sync_pairs sync_sources rows store heard sources names pages universes in
         Steps settings reading (data_packet (packet_of packet values.now))
-        receiver m.entry out.old result.receiver m.exit out.new result.answer }
+        receiver m.entry out.old result.left m.exit out.new result.answer }
 {
-    let Short::Released(bytes) = step_short(
+    match step_short(
         receiver,
-        &mut *data_pairs,
-        &*data_sources,
-        &*store,
-        &*heard,
-        &*universes,
+        data_pairs,
+        data_sources,
+        store,
+        heard,
+        universes,
         settings,
         reading,
         packet,
         values,
-        &mut *out,
-    ) else {
-        return step_data(
+        out,
+    ) {
+        Some(bytes) => After {
+            left: receiver.note_reading(reading),
+            answer: StepAnswer::Released(1, bytes),
+        },
+        None => step_data(
             receiver,
             data_pairs,
             data_sources,
@@ -194,12 +197,7 @@ pub fn handle_data_packet(
             packet,
             values,
             out,
-        );
-    };
-    let next = receiver.note_reading(reading);
-    Handled {
-        receiver: next,
-        answer: StepAnswer::Released(1, bytes),
+        ),
     }
 }
 
@@ -226,43 +224,36 @@ pub fn handle_sync_packet(
         (sync_packet_lent_in data_pairs data_sources sync_pairs sync_sources rows store heard sources names pages universes) }
     ensures { let m = sync_packet_lent data_pairs data_sources sync_pairs sync_sources rows store heard sources names pages universes in
         Steps settings reading (sync_packet (sync_of packet))
-        receiver m.entry out.old result.receiver m.exit out.new result.answer }
+        receiver m.entry out.old result.left m.exit out.new result.answer }
 {
-    let part = Measured::Fits;
-    let o = open(
+    match open(
         receiver,
-        &mut *data_pairs,
-        &mut *data_sources,
-        &mut *sync_pairs,
-        &mut *sync_sources,
-        &mut *rows,
-        &mut *store,
-        universes,
-        settings,
-        reading,
-        part,
-        &*out,
-    );
-    let opened = o.receiver;
-    if o.stopped {
-        let answer = o.answer;
-        return Handled {
-            receiver: opened,
-            answer: answer,
-        };
-    }
-    take_sync(
-        opened,
+        data_pairs,
+        data_sources,
         sync_pairs,
         sync_sources,
         rows,
         store,
-        heard,
+        universes,
         settings,
         reading,
-        packet,
+        Ok(()),
         out,
-    )
+    ) {
+        Ok(opened) => take_sync(
+            opened,
+            sync_pairs,
+            sync_sources,
+            rows,
+            store,
+            heard,
+            settings,
+            reading,
+            packet,
+            out,
+        ),
+        Err(stopped) => stopped,
+    }
 }
 
 // A step on a discovery packet.
@@ -290,32 +281,25 @@ pub fn handle_universe_discovery_packet(
         (discovery_packet_lent_in data_pairs data_sources sync_pairs sync_sources rows store heard sources names pages universes) }
     ensures { let m = discovery_packet_lent data_pairs data_sources sync_pairs sync_sources rows store heard sources names pages universes in
         Steps settings reading (discovery_packet (announcement_of packet name.now list.now))
-        receiver m.entry out.now result.receiver m.exit out.now result.answer }
+        receiver m.entry out.now result.left m.exit out.now result.answer }
 {
-    let part = test_announcement(name, list);
-    let o = open(
+    match open(
         receiver,
-        &mut *data_pairs,
-        &mut *data_sources,
-        &mut *sync_pairs,
-        &mut *sync_sources,
-        &mut *rows,
-        &mut *store,
-        &*universes,
+        data_pairs,
+        data_sources,
+        sync_pairs,
+        sync_sources,
+        rows,
+        store,
+        universes,
         settings,
         reading,
-        part,
+        test_announcement(name, list),
         out,
-    );
-    let opened = o.receiver;
-    if o.stopped {
-        let answer = o.answer;
-        return Handled {
-            receiver: opened,
-            answer: answer,
-        };
+    ) {
+        Ok(opened) => take_discovery(
+            opened, sources, names, pages, universes, settings, reading, packet, name, list,
+        ),
+        Err(stopped) => stopped,
     }
-    take_discovery(
-        opened, sources, names, pages, universes, settings, reading, packet, name, list,
-    )
 }

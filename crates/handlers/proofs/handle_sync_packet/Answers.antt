@@ -1,5 +1,6 @@
 -- The opening ends the step, or lets the packet be taken.
 -- Assumes nothing.
+use mathlib.Core.Path.{refl}
 use Rattle.model.specs.Packet.{sync_packet}
 use Rattle.packets.specs.View.{sync_of}
 use Rattle.receiver.specs.View.{memory}
@@ -8,22 +9,22 @@ use Rattle.opening.specs.Laws.{ready_output, ready_held}
 use Rattle.handlers.specs.Laws.{steps_stopped, steps_taken}
 use Rattle.handlers.proofs.handle_sync_packet.Goals as goal
 
-pub returns-then-o : goal.returns-then-o
-returns-then-o c =
+pub returns-in-Err : goal.returns-in-Err
+returns-in-Err c =
     let v = c.args in
     let p = sync_packet (sync_of v.packet) in
     let l = long_sync (sync_of v.packet) in
-    let x = (c.open-o.ensures (memory v.data_pairs.now v.data_sources.now v.sync_pairs.now v.sync_sources.now v.rows.now v.store.now v.heard.now v.sources.now v.names.now v.pages.now v.universes.now) v.sources.now v.names.now v.pages.now) in
+    let x = (c.in-Err.ensures (memory v.data_pairs.now v.data_sources.now v.sync_pairs.now v.sync_sources.now v.rows.now v.store.now v.heard.now v.sources.now v.names.now v.pages.now v.universes.now) v.sources.now v.names.now v.pages.now) in
     steps_stopped v.settings v.reading p v.receiver (memory v.data_pairs.now v.data_sources.now v.sync_pairs.now v.sync_sources.now v.rows.now v.store.now v.heard.now v.sources.now v.names.now v.pages.now v.universes.now) v.out.now c.requires _ l
-    c.open-o.result.receiver (memory c.open-o.new.data_pairs c.open-o.new.data_sources c.open-o.new.sync_pairs c.open-o.new.sync_sources c.open-o.new.rows c.open-o.new.store v.heard.now v.sources.now v.names.now v.pages.now v.universes.now) _ _ x c.if-o.true
+    c.in-Err.stopped.left (memory c.open.new.data_pairs c.open.new.data_sources c.open.new.sync_pairs c.open.new.sync_sources c.open.new.rows c.open.new.store v.heard.now v.sources.now v.names.now v.pages.now v.universes.now) _ _ x refl
 
 pub take_sync-requires : goal.take_sync-requires
 take_sync-requires c =
     let v = c.args in
     let p = sync_packet (sync_of v.packet) in
     let l = long_sync (sync_of v.packet) in
-    let x = (c.open-o.ensures (memory v.data_pairs.now v.data_sources.now v.sync_pairs.now v.sync_sources.now v.rows.now v.store.now v.heard.now v.sources.now v.names.now v.pages.now v.universes.now) v.sources.now v.names.now v.pages.now) in
-    let e = c.if-o.false in
+    let x = (c.in-Ok.ensures (memory v.data_pairs.now v.data_sources.now v.sync_pairs.now v.sync_sources.now v.rows.now v.store.now v.heard.now v.sources.now v.names.now v.pages.now v.universes.now) v.sources.now v.names.now v.pages.now) in
+    let e = refl in
     record {
       sync = (x.kept c.requires).kept_sequences.kept_sync;
       waiting = ready_held _ _ _ _ _ _ _ _ _ _ c.requires x e;
@@ -31,13 +32,13 @@ take_sync-requires c =
       room = ready_output _ _ _ _ _ _ _ _ _ _ c.requires x e;
     }
 
-pub returns : goal.returns
-returns c =
+pub returns-in-Ok : goal.returns-in-Ok
+returns-in-Ok c =
     let v = c.args in
     let p = sync_packet (sync_of v.packet) in
     let l = long_sync (sync_of v.packet) in
-    let x = (c.open-o.ensures (memory v.data_pairs.now v.data_sources.now v.sync_pairs.now v.sync_sources.now v.rows.now v.store.now v.heard.now v.sources.now v.names.now v.pages.now v.universes.now) v.sources.now v.names.now v.pages.now) in
+    let x = (c.in-Ok.ensures (memory v.data_pairs.now v.data_sources.now v.sync_pairs.now v.sync_sources.now v.rows.now v.store.now v.heard.now v.sources.now v.names.now v.pages.now v.universes.now) v.sources.now v.names.now v.pages.now) in
     steps_taken v.settings v.reading p v.receiver (memory v.data_pairs.now v.data_sources.now v.sync_pairs.now v.sync_sources.now v.rows.now v.store.now v.heard.now v.sources.now v.names.now v.pages.now v.universes.now) v.out.now c.requires _ l
-    c.open-o.result.receiver (memory c.open-o.new.data_pairs c.open-o.new.data_sources c.open-o.new.sync_pairs c.open-o.new.sync_sources c.open-o.new.rows c.open-o.new.store v.heard.now v.sources.now v.names.now v.pages.now v.universes.now) _ _ x
-    c.take_sync.result.receiver (memory c.open-o.new.data_pairs c.open-o.new.data_sources c.take_sync.new.sync_pairs c.take_sync.new.sync_sources c.take_sync.new.rows c.take_sync.new.store v.heard.now v.sources.now v.names.now v.pages.now v.universes.now) c.take_sync.new.out c.take_sync.result.answer
-    c.if-o.false (c.take_sync.ensures (memory c.open-o.new.data_pairs c.open-o.new.data_sources c.open-o.new.sync_pairs c.open-o.new.sync_sources c.open-o.new.rows c.open-o.new.store v.heard.now v.sources.now v.names.now v.pages.now v.universes.now))
+    c.in-Ok.opened (memory c.open.new.data_pairs c.open.new.data_sources c.open.new.sync_pairs c.open.new.sync_sources c.open.new.rows c.open.new.store v.heard.now v.sources.now v.names.now v.pages.now v.universes.now) _ _ x
+    c.take_sync.result.left (memory c.open.new.data_pairs c.open.new.data_sources c.take_sync.new.sync_pairs c.take_sync.new.sync_sources c.take_sync.new.rows c.take_sync.new.store v.heard.now v.sources.now v.names.now v.pages.now v.universes.now) c.take_sync.new.out c.take_sync.result.answer
+    refl (c.take_sync.ensures (memory c.open.new.data_pairs c.open.new.data_sources c.open.new.sync_pairs c.open.new.sync_sources c.open.new.rows c.open.new.store v.heard.now v.sources.now v.names.now v.pages.now v.universes.now))

@@ -9,35 +9,35 @@ use Rattle.opening.specs.Laws.{ready_found}
 use Rattle.handlers.specs.Laws.{steps_stopped, steps_taken}
 use Rattle.handlers.proofs.handle_universe_discovery_packet.Goals as goal
 
-pub returns-then-o : goal.returns-then-o
-returns-then-o c =
+pub returns-in-Err : goal.returns-in-Err
+returns-in-Err c =
     let v = c.args in
     let p = discovery_packet (announcement_of v.packet v.name.now v.list.now) in
-    let l = long_announcement (announcement_of v.packet v.name.now v.list.now) _ c.test_announcement-part.ensures in
-    let x = (c.open-o.ensures (memory v.data_pairs.now v.data_sources.now v.sync_pairs.now v.sync_sources.now v.rows.now v.store.now v.heard.now v.sources.now v.names.now v.pages.now v.universes.now) v.sources.now v.names.now v.pages.now) in
+    let l = long_announcement (announcement_of v.packet v.name.now v.list.now) _ c.test_announcement.ensures in
+    let x = (c.in-Err.ensures (memory v.data_pairs.now v.data_sources.now v.sync_pairs.now v.sync_sources.now v.rows.now v.store.now v.heard.now v.sources.now v.names.now v.pages.now v.universes.now) v.sources.now v.names.now v.pages.now) in
     steps_stopped v.settings v.reading p v.receiver (memory v.data_pairs.now v.data_sources.now v.sync_pairs.now v.sync_sources.now v.rows.now v.store.now v.heard.now v.sources.now v.names.now v.pages.now v.universes.now) v.out.now c.requires _ l
-    c.open-o.result.receiver (memory c.open-o.new.data_pairs c.open-o.new.data_sources c.open-o.new.sync_pairs c.open-o.new.sync_sources c.open-o.new.rows c.open-o.new.store v.heard.now v.sources.now v.names.now v.pages.now v.universes.now) _ _ x c.if-o.true
+    c.in-Err.stopped.left (memory c.open.new.data_pairs c.open.new.data_sources c.open.new.sync_pairs c.open.new.sync_sources c.open.new.rows c.open.new.store v.heard.now v.sources.now v.names.now v.pages.now v.universes.now) _ _ x refl
 
 pub take_discovery-requires : goal.take_discovery-requires
 take_discovery-requires c =
     let v = c.args in
     let p = discovery_packet (announcement_of v.packet v.name.now v.list.now) in
-    let l = long_announcement (announcement_of v.packet v.name.now v.list.now) _ c.test_announcement-part.ensures in
-    let x = (c.open-o.ensures (memory v.data_pairs.now v.data_sources.now v.sync_pairs.now v.sync_sources.now v.rows.now v.store.now v.heard.now v.sources.now v.names.now v.pages.now v.universes.now) v.sources.now v.names.now v.pages.now) in
-    let e = c.if-o.false in
+    let l = long_announcement (announcement_of v.packet v.name.now v.list.now) _ c.test_announcement.ensures in
+    let x = (c.in-Ok.ensures (memory v.data_pairs.now v.data_sources.now v.sync_pairs.now v.sync_sources.now v.rows.now v.store.now v.heard.now v.sources.now v.names.now v.pages.now v.universes.now) v.sources.now v.names.now v.pages.now) in
+    let e = refl in
     record {
       discovery = ready_found _ _ _ _ _ _ _ _ _ _ c.requires x e refl;
       name = name_fits _ (l ∙ (x.fits e).1);
       list = list_fits _ (l ∙ (x.fits e).1);
     }
 
-pub returns : goal.returns
-returns c =
+pub returns-in-Ok : goal.returns-in-Ok
+returns-in-Ok c =
     let v = c.args in
     let p = discovery_packet (announcement_of v.packet v.name.now v.list.now) in
-    let l = long_announcement (announcement_of v.packet v.name.now v.list.now) _ c.test_announcement-part.ensures in
-    let x = (c.open-o.ensures (memory v.data_pairs.now v.data_sources.now v.sync_pairs.now v.sync_sources.now v.rows.now v.store.now v.heard.now v.sources.now v.names.now v.pages.now v.universes.now) v.sources.now v.names.now v.pages.now) in
+    let l = long_announcement (announcement_of v.packet v.name.now v.list.now) _ c.test_announcement.ensures in
+    let x = (c.in-Ok.ensures (memory v.data_pairs.now v.data_sources.now v.sync_pairs.now v.sync_sources.now v.rows.now v.store.now v.heard.now v.sources.now v.names.now v.pages.now v.universes.now) v.sources.now v.names.now v.pages.now) in
     steps_taken v.settings v.reading p v.receiver (memory v.data_pairs.now v.data_sources.now v.sync_pairs.now v.sync_sources.now v.rows.now v.store.now v.heard.now v.sources.now v.names.now v.pages.now v.universes.now) v.out.now c.requires _ l
-    c.open-o.result.receiver (memory c.open-o.new.data_pairs c.open-o.new.data_sources c.open-o.new.sync_pairs c.open-o.new.sync_sources c.open-o.new.rows c.open-o.new.store v.heard.now v.sources.now v.names.now v.pages.now v.universes.now) _ _ x
-    c.take_discovery.result.receiver (memory c.open-o.new.data_pairs c.open-o.new.data_sources c.open-o.new.sync_pairs c.open-o.new.sync_sources c.open-o.new.rows c.open-o.new.store v.heard.now c.take_discovery.new.sources c.take_discovery.new.names c.take_discovery.new.pages c.take_discovery.new.universes) v.out.now c.take_discovery.result.answer
-    c.if-o.false (c.take_discovery.ensures (memory c.open-o.new.data_pairs c.open-o.new.data_sources c.open-o.new.sync_pairs c.open-o.new.sync_sources c.open-o.new.rows c.open-o.new.store v.heard.now v.sources.now v.names.now v.pages.now v.universes.now) v.out.now)
+    c.in-Ok.opened (memory c.open.new.data_pairs c.open.new.data_sources c.open.new.sync_pairs c.open.new.sync_sources c.open.new.rows c.open.new.store v.heard.now v.sources.now v.names.now v.pages.now v.universes.now) _ _ x
+    c.take_discovery.result.left (memory c.open.new.data_pairs c.open.new.data_sources c.open.new.sync_pairs c.open.new.sync_sources c.open.new.rows c.open.new.store v.heard.now c.take_discovery.new.sources c.take_discovery.new.names c.take_discovery.new.pages c.take_discovery.new.universes) v.out.now c.take_discovery.result.answer
+    refl (c.take_discovery.ensures (memory c.open.new.data_pairs c.open.new.data_sources c.open.new.sync_pairs c.open.new.sync_sources c.open.new.rows c.open.new.store v.heard.now v.sources.now v.names.now v.pages.now v.universes.now) v.out.now)
