@@ -19,7 +19,7 @@ use settings::Settings;
 use waiting_calls::Waiting;
 use waiting_store::{EntryRows, write_record};
 
-// What an accepted packet leaves, and what the step answers.
+// What an accepted packet leaves, two tables' headers, and what the step answers.
 #[derive(Clone, Copy)]
 pub struct Accepted {
     pub waiting: Waiting,

@@ -1,4 +1,5 @@
 // The answers of the receiver's calls. What each call does is defined in specs/; this crate has no functions.
+// Each is an enum of its own and no Result: its definition gives the number and the values of each case, of a stop as of a success.
 
 #![tactic(auto)]
 

@@ -13,7 +13,6 @@ ghost use Rattle.laws.specs.Lent.{untouched};
 ghost use Rattle.receiver.specs.View.{Memory, with_listened_rows, state_of, reading_noted, KeptWaiting, KeptDiscovery, Kept, Begins, Does, Becomes};
 ghost use Rattle.sequences.specs.Promises.{sequence_rows_in};
 ghost use Rattle.receiver.specs.Promises.{sequences_lent, waiting_lent, listened_lent, discovery_lent};
-ghost use Rattle.model.specs.Step.{most_listened};
 
 use discovery_calls::Discovery;
 use discovery_rows::{HeadRows, NameRows, PageRows};
@@ -29,7 +28,7 @@ use timeouts::{is_idle, poll};
 use waiting_calls::Waiting;
 use waiting_store::EntryRows;
 
-// The counts of every table; the tables themselves lie in the lent memory.
+// The counts of every table; the tables themselves lie in the lent memory. Its parts are lent to every call one by one, as C hands them over.
 #[derive(Clone, Copy)]
 pub struct Receiver {
     pub sequences: SequenceNumbering,
