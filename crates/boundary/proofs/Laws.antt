@@ -1,14 +1,15 @@
 -- What is turned over is the same: header, settings, reply; and each answer has the model's number and values.
 -- Assumes nothing.
-use Rattle.std.specs.Prelude.{◌≡◌, refl, false, List, ℕ}
+use Rattle.std.specs.Prelude.{Result, Ok, Err, ◌≡◌, refl, false, List, ℕ}
+use Rattle.laws.specs.declared.After.{After}
 use Rattle.settings.specs.declared.Settings.{Settings}
 use Rattle.settings.specs.Settings.{settings, Proper}
 use Rattle.settings.specs.declared.MergeChoice.{MergeChoice}
 use Rattle.settings.specs.declared.SourceLimit.{SourceLimit}
-use Rattle.settings_store.specs.declared.StoreSettingsAnswer.{StoreSettingsAnswer}
-use Rattle.settings_store.specs.declared.StoreSettingsAnswer.TheVariants as storing
-use Rattle.settings_store.specs.declared.LoadSettingsAnswer.{LoadSettingsAnswer}
-use Rattle.settings_store.specs.declared.LoadSettingsAnswer.TheVariants as loading
+use Rattle.settings_store.specs.declared.StoreSettingsError.{StoreSettingsError}
+use Rattle.settings_store.specs.declared.StoreSettingsError.TheVariants as storing
+use Rattle.settings_store.specs.declared.LoadSettingsError.{LoadSettingsError}
+use Rattle.settings_store.specs.declared.LoadSettingsError.TheVariants as loading
 use Rattle.settings_store.specs.Record.{merge_number, merge_of, limit_number, limit_of, zero_limit, store_number, store_values, load_number}
 use Rattle.settings_store.proofs.Laws.{merge_back, limit_back, proper_limit}
 use Rattle.model.specs.declared.StepAnswer.{StepAnswer}
@@ -25,7 +26,6 @@ use Rattle.model.specs.declared.ClearAnswer.{ClearAnswer}
 use Rattle.model.specs.declared.ClearAnswer.TheVariants as clearing
 use Rattle.model.specs.Answer.{step_number, step_values, poll_number, poll_values, expiry_number, expiry_values, listen_number, listen_values, mute_number, mute_values, clear_number, clear_values}
 use Rattle.receiver.specs.declared.Receiver.{Receiver}
-use Rattle.steps.specs.declared.Handled.{Handled}
 use Rattle.boundary.specs.declared.Header.{Header}
 use Rattle.boundary.specs.declared.Choices.{Choices}
 use Rattle.boundary.specs.declared.Answer.{Answer}
@@ -58,7 +58,7 @@ choices_are s m l e f = rw (e, f)
 pub choices_back : (s : Settings) → zero_limit s.source_limit ≡ false → settings_of (choices_of s) ≡ s
 choices_back s h = λ i. settings s.process_preview_data s.announce_source_discovery s.announce_stream_termination s.announce_timeout (merge_back s.merge i) (limit_back s.source_limit h i) s.discovery_expiry
 
-pub reply_is : (h : Handled) (x : Header) (a : Answer) → x ≡ header_of h.receiver → a ≡ told_of h.answer → record { header = x; answer = a } ≡ reply_of h
+pub reply_is : (h : After Receiver StepAnswer) (x : Header) (a : Answer) → x ≡ header_of h.left → a ≡ told_of h.answer → record { header = x; answer = a } ≡ reply_of h
 reply_is h x a e f = λ i. record { header = e i; answer = f i }
 
 -- ── a step ──
@@ -121,24 +121,24 @@ pub tells_clear : (a : ClearAnswer) → Tells clear_number clear_values a (clear
 tells_clear (clearing.Cleared b) = record { number_is = refl; values_are = λ own. refl }
 tells_clear (clearing.TooShort n) = record { number_is = refl; values_are = λ own. refl }
 
-pub tells_store : (a : StoreSettingsAnswer) → Tells store_number store_values a (stored_of a)
-tells_store storing.Stored = record { number_is = refl; values_are = λ own. refl }
-tells_store (storing.TooShort n) = record { number_is = refl; values_are = λ own. refl }
-tells_store storing.LimitZero = record { number_is = refl; values_are = λ own. refl }
-tells_store storing.ExpiryOutOfRange = record { number_is = refl; values_are = λ own. refl }
+pub tells_store : (a : Result Unit StoreSettingsError) → Tells store_number store_values a (stored_of a)
+tells_store (Ok u) = record { number_is = refl; values_are = λ own. refl }
+tells_store (Err (storing.TooShort n)) = record { number_is = refl; values_are = λ own. refl }
+tells_store (Err storing.LimitZero) = record { number_is = refl; values_are = λ own. refl }
+tells_store (Err storing.ExpiryOutOfRange) = record { number_is = refl; values_are = λ own. refl }
 
 -- ── a settings record that was read ──
-pub load_number_lem : (c : Choices) (a : LoadSettingsAnswer) → (loaded_of c a).number ≡ load_number a
-load_number_lem c (loading.Loaded s) = refl
-load_number_lem c loading.NoSettingsRecord = refl
-load_number_lem c loading.UnreadableSettingsRecord = refl
+pub load_number_lem : (c : Choices) (a : Result Settings LoadSettingsError) → (loaded_of c a).number ≡ load_number a
+load_number_lem c (Ok s) = refl
+load_number_lem c (Err loading.NoSettingsRecord) = refl
+load_number_lem c (Err loading.UnreadableSettingsRecord) = refl
 
 -- on a stop the caller's settings are left field by field
-pub load_left : (c : Choices) (a : LoadSettingsAnswer) → ((loaded_of c a).number ≡ 0 → ⊥) → (loaded_of c a).choices ≡ c
-load_left c (loading.Loaded s) h = absurd (h refl)
-load_left c loading.NoSettingsRecord h = refl
-load_left c loading.UnreadableSettingsRecord h = refl
+pub load_left : (c : Choices) (a : Result Settings LoadSettingsError) → ((loaded_of c a).number ≡ 0 → ⊥) → (loaded_of c a).choices ≡ c
+load_left c (Ok s) h = absurd (h refl)
+load_left c (Err loading.NoSettingsRecord) h = refl
+load_left c (Err loading.UnreadableSettingsRecord) h = refl
 
 -- else they are those that were read
-pub load_taken : (c : Choices) (a : LoadSettingsAnswer) (s : Settings) → a ≡ loading.Loaded s → Proper s → settings_of (loaded_of c a).choices ≡ s
+pub load_taken : (c : Choices) (a : Result Settings LoadSettingsError) (s : Settings) → a ≡ Ok s → Proper s → settings_of (loaded_of c a).choices ≡ s
 load_taken c a s e p = rw e (choices_back s (proper_limit s.source_limit p.0))

@@ -1,14 +1,15 @@
 -- What crosses the C boundary, as the receiver and the model have it.
 -- Assumes nothing.
-use Rattle.std.specs.Prelude.{cond, List, [], ◌∷◌, ℕ, eqb, ℤ, pos}
+use Rattle.std.specs.Prelude.{Result, Ok, Err, cond, List, [], ◌∷◌, ℕ, eqb, ℤ, pos}
+use Rattle.laws.specs.declared.After.{After}
 use Rattle.rules.specs.declared.Cid.{Cid}
 use Rattle.rules.specs.Answer.{Value, number, integer, source, name}
 use Rattle.settings.specs.declared.Settings.{Settings}
 use Rattle.settings.specs.Settings.{settings}
-use Rattle.settings_store.specs.declared.StoreSettingsAnswer.{StoreSettingsAnswer}
-use Rattle.settings_store.specs.declared.StoreSettingsAnswer.TheVariants as storing
-use Rattle.settings_store.specs.declared.LoadSettingsAnswer.{LoadSettingsAnswer}
-use Rattle.settings_store.specs.declared.LoadSettingsAnswer.TheVariants as loading
+use Rattle.settings_store.specs.declared.StoreSettingsError.{StoreSettingsError}
+use Rattle.settings_store.specs.declared.StoreSettingsError.TheVariants as storing
+use Rattle.settings_store.specs.declared.LoadSettingsError.{LoadSettingsError}
+use Rattle.settings_store.specs.declared.LoadSettingsError.TheVariants as loading
 use Rattle.settings_store.specs.Record.{merge_number, merge_of, limit_number, limit_of}
 use Rattle.model.specs.declared.StepAnswer.{StepAnswer}
 use Rattle.model.specs.declared.StepAnswer.TheVariants as says
@@ -26,7 +27,6 @@ use Rattle.discovery.specs.Discovery.{Announcement}
 use Rattle.rules.specs.Bytes.{bit}
 use Rattle.model.specs.Packet.{DataPacket, SyncPacket}
 use Rattle.receiver.specs.declared.Receiver.{Receiver}
-use Rattle.steps.specs.declared.Handled.{Handled}
 use Rattle.boundary.specs.declared.Header.{Header}
 use Rattle.boundary.specs.declared.Choices.{Choices}
 use Rattle.boundary.specs.declared.Data.{Data}
@@ -40,8 +40,8 @@ use Rattle.boundary.specs.declared.Adjusted.{Adjusted}
 abbrev pub receiver_of : Header → Receiver
 receiver_of h = record {
   sequences = record {
-    «data» = record { table = record { count = h.data_pairs; source_count = h.data_sources; oldest = h.data_oldest; tidy = h.data_tidy } };
-    sync = record { table = record { count = h.sync_pairs; source_count = h.sync_sources; oldest = h.sync_oldest; tidy = h.sync_tidy } };
+    «data» = record { table = record { count = h.data_pairs; source_count = h.data_sources; oldest = h.data_oldest; tidy = h.data_tidy }; kind = record {} };
+    sync = record { table = record { count = h.sync_pairs; source_count = h.sync_sources; oldest = h.sync_oldest; tidy = h.sync_tidy }; kind = record {} };
   };
   waiting = record { count = h.waiting };
   listened = record { count = h.listened };
@@ -173,21 +173,21 @@ cleared_of (clearing.Cleared b) = one_of 0 (bit b)
 cleared_of (clearing.TooShort n) = one_of 15 n
 
 -- the writer of a settings record
-abbrev pub stored_of : StoreSettingsAnswer → Answer
-stored_of storing.Stored = bare_of 0
-stored_of (storing.TooShort n) = one_of 15 n
-stored_of storing.LimitZero = bare_of 14
-stored_of storing.ExpiryOutOfRange = bare_of 20
+abbrev pub stored_of : Result Unit StoreSettingsError → Answer
+stored_of (Ok u) = bare_of 0
+stored_of (Err (storing.TooShort n)) = one_of 15 n
+stored_of (Err storing.LimitZero) = bare_of 14
+stored_of (Err storing.ExpiryOutOfRange) = bare_of 20
 
 -- its reader: the settings that were read, or the caller's as they were
 abbrev pub refused_of : Choices → ℕ → Adjusted
 refused_of c n = record { choices = c; number = n }
 
-abbrev pub loaded_of : Choices → LoadSettingsAnswer → Adjusted
-loaded_of c (loading.Loaded s) = record { choices = choices_of s; number = 0 }
-loaded_of c loading.NoSettingsRecord = refused_of c 22
-loaded_of c loading.UnreadableSettingsRecord = refused_of c 23
+abbrev pub loaded_of : Choices → Result Settings LoadSettingsError → Adjusted
+loaded_of c (Ok s) = record { choices = choices_of s; number = 0 }
+loaded_of c (Err loading.NoSettingsRecord) = refused_of c 22
+loaded_of c (Err loading.UnreadableSettingsRecord) = refused_of c 23
 
 -- what a step leaves and answers
-abbrev pub reply_of : Handled → Reply
-reply_of h = record { header = header_of h.receiver; answer = told_of h.answer }
+abbrev pub reply_of : After Receiver StepAnswer → Reply
+reply_of h = record { header = header_of h.left; answer = told_of h.answer }

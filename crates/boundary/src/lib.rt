@@ -3,9 +3,7 @@
 #![tactic(auto)]
 
 ghost use Rattle.std.specs.Prelude.{◌≡◌, List, ℕ};
-ghost use Rattle.settings.specs.Settings.{limited, expiring, number_of};
-ghost use Rattle.rules.specs.Bytes.{bit};
-ghost use Rattle.lengths.specs.Space.{bytes};
+ghost use Rattle.settings.specs.Settings.{limited, expiring, kept, number_of};
 ghost use Rattle.packets.specs.View.{packet_of, sync_of};
 ghost use Rattle.packets.specs.View.{announcement_of};
 ghost use Rattle.boundary.specs.Boundary.{receiver_of, header_of, settings_of, packet_in, sync_in, announced_in, bare_of, one_of, two_of, pair_of, sequence_of, discovered_of, told_of, reply_of, polled_of, swept_of, heard_of, muted_of, cleared_of};
@@ -13,6 +11,7 @@ ghost use Rattle.boundary.specs.Boundary.{receiver_of, header_of, settings_of, p
 pub mod records;
 
 use discovery_calls::Discovery;
+use laws::After;
 use listening::Listened;
 use model::{ClearAnswer, ExpiryAnswer, ListenAnswer, MuteAnswer, PollAnswer, StepAnswer};
 use packets::{DataPacket, DiscoveryPacket, SyncPacket};
@@ -22,7 +21,6 @@ use rules::{Cid, DataSequence, SyncSequence};
 use sequences::SequenceNumbering;
 use settings::{Settings, is_expiry_in_range};
 use settings_calls::{limit_of, merge_of};
-use steps::Handled;
 use waiting_calls::Waiting;
 
 // The counts and notes of every table.
@@ -123,22 +121,20 @@ pub struct Adjusted {
 pub fn receiver_of(h: Header) -> Receiver
     ensures { result ≡ receiver_of h }
 {
-    let d = PairTable {
-        count: h.data_pairs,
-        source_count: h.data_sources,
-        oldest: h.data_oldest,
-        tidy: h.data_tidy,
-    };
-    let y = PairTable {
-        count: h.sync_pairs,
-        source_count: h.sync_sources,
-        oldest: h.sync_oldest,
-        tidy: h.sync_tidy,
-    };
     Receiver {
         sequences: SequenceNumbering {
-            data: DataTable { table: d },
-            sync: SyncTable { table: y },
+            data: DataTable::of(PairTable {
+                count: h.data_pairs,
+                source_count: h.data_sources,
+                oldest: h.data_oldest,
+                tidy: h.data_tidy,
+            }),
+            sync: SyncTable::of(PairTable {
+                count: h.sync_pairs,
+                source_count: h.sync_sources,
+                oldest: h.sync_oldest,
+                tidy: h.sync_tidy,
+            }),
         },
         waiting: Waiting { count: h.waiting },
         listened: Listened { count: h.listened },
@@ -173,15 +169,13 @@ pub fn header_of(r: Receiver) -> Header
 pub fn settings_of(c: Choices) -> Settings
     ensures { result ≡ settings_of c }
 {
-    let merge = merge_of(c.merge);
-    let limit = limit_of(c.source_limit);
     Settings {
         process_preview_data: c.process_preview_data,
         announce_source_discovery: c.announce_source_discovery,
         announce_stream_termination: c.announce_stream_termination,
         announce_timeout: c.announce_timeout,
-        merge: merge,
-        source_limit: limit,
+        merge: merge_of(c.merge),
+        source_limit: limit_of(c.source_limit),
         discovery_expiry: c.discovery_expiry,
     }
 }
@@ -229,7 +223,7 @@ fn bare(number: u8) -> Answer
         second: 0,
         hi: 0,
         lo: 0,
-        number: number,
+        number,
         values: 0,
         difference: 0,
     }
@@ -239,13 +233,9 @@ fn one(number: u8, first: usize) -> Answer
     ensures { result ≡ one_of number first }
 {
     Answer {
-        first: first,
-        second: 0,
-        hi: 0,
-        lo: 0,
-        number: number,
+        first,
         values: 1,
-        difference: 0,
+        ..bare(number)
     }
 }
 
@@ -255,11 +245,8 @@ fn released(records: usize, bytes: usize) -> Answer
     Answer {
         first: records,
         second: bytes,
-        hi: 0,
-        lo: 0,
-        number: 0,
         values: 2,
-        difference: 0,
+        ..bare(0)
     }
 }
 
@@ -267,13 +254,11 @@ fn pair(number: u8, cid: Cid, universe: u16) -> Answer
     ensures { result ≡ pair_of number cid universe }
 {
     Answer {
-        first: universe as usize,
-        second: 0,
+        first: usize::from(universe),
         hi: cid.hi,
         lo: cid.lo,
-        number: number,
         values: 3,
-        difference: 0,
+        ..bare(number)
     }
 }
 
@@ -281,13 +266,11 @@ fn sequenced(number: u8, arriving: u8, last: u8, difference: i8) -> Answer
     ensures { result ≡ sequence_of number arriving last difference }
 {
     Answer {
-        first: arriving as usize,
-        second: last as usize,
-        hi: 0,
-        lo: 0,
-        number: number,
+        first: usize::from(arriving),
+        second: usize::from(last),
         values: 4,
-        difference: difference,
+        difference,
+        ..bare(number)
     }
 }
 
@@ -295,13 +278,8 @@ fn discovered() -> Answer
     ensures { result ≡ discovered_of }
 {
     Answer {
-        first: 0,
-        second: 0,
-        hi: 0,
-        lo: 0,
-        number: 9,
         values: 5,
-        difference: 0,
+        ..bare(9)
     }
 }
 
@@ -312,7 +290,7 @@ pub fn told(a: StepAnswer) -> Answer
         StepAnswer::Nothing => bare(0),
         StepAnswer::Released(records, bytes) => released(records, bytes),
         StepAnswer::TooLong(n) => one(1, n),
-        StepAnswer::IllegalUniverse(u) => one(2, u as usize),
+        StepAnswer::IllegalUniverse(u) => one(2, usize::from(u)),
         StepAnswer::UniverseTimeout(c, u) => pair(4, c, u),
         StepAnswer::UniverseTerminated(c, u) => pair(5, c, u),
         StepAnswer::SourcesExceeded(n) => one(6, n),
@@ -328,14 +306,13 @@ pub fn told(a: StepAnswer) -> Answer
     }
 }
 
-pub fn step_reply(h: Handled) -> Reply
+pub fn step_reply(h: After<Receiver, StepAnswer>) -> Reply
     ensures { result ≡ reply_of h }
 {
-    let left = h.receiver;
-    let said = h.answer;
-    let header = header_of(left);
-    let answer = told(said);
-    Reply { header, answer }
+    Reply {
+        header: header_of(h.left),
+        answer: told(h.answer),
+    }
 }
 
 pub fn polled(a: PollAnswer) -> Answer
@@ -362,7 +339,7 @@ pub fn heard_answer(a: ListenAnswer) -> Answer
 {
     match a {
         ListenAnswer::Listening => bare(0),
-        ListenAnswer::IllegalUniverse(u) => one(2, u as usize),
+        ListenAnswer::IllegalUniverse(u) => one(2, usize::from(u)),
         ListenAnswer::ListenedFull => bare(11),
     }
 }
@@ -372,68 +349,58 @@ pub fn muted(a: MuteAnswer) -> Answer
 {
     match a {
         MuteAnswer::Muted => bare(0),
-        MuteAnswer::IllegalUniverse(u) => one(2, u as usize),
-        MuteAnswer::UniverseNotRegistered(u) => one(3, u as usize),
+        MuteAnswer::IllegalUniverse(u) => one(2, usize::from(u)),
+        MuteAnswer::UniverseNotRegistered(u) => one(3, usize::from(u)),
     }
-}
-
-fn bit_of(b: bool) -> usize
-    ensures { result ≡ bit b }
-{
-    if b {
-        return 1;
-    }
-    0
 }
 
 pub fn cleared(a: ClearAnswer) -> Answer
     ensures { result ≡ cleared_of a }
 {
     match a {
-        ClearAnswer::Cleared(b) => {
-            let n = bit_of(b);
-            one(0, n)
-        }
+        ClearAnswer::Cleared(b) => one(0, usize::from(b)),
         ClearAnswer::TooShort(n) => one(15, n),
     }
 }
 
 // A limit of 0 gives 14 and changes nothing.
 pub fn with_source_limit(choices: Choices, limit: u16) -> Adjusted
-    ensures set { (settings_of result.choices ≡ (limited limit (settings_of choices)).settings)
-        × (result.number ≡ number_of (limited limit (settings_of choices)).answer) }
+    ensures set { let s = settings_of choices in
+        (settings_of result.choices ≡ kept (limited limit s) s) × (result.number ≡ number_of (limited limit s)) }
     ensures left { result.number ≡ 14 → result.choices ≡ choices }
 {
     if limit == 0 {
         return Adjusted {
-            choices: choices,
+            choices,
             number: 14,
         };
     }
-    let mut c = choices;
-    c.source_limit = limit;
     Adjusted {
-        choices: c,
+        choices: Choices {
+            source_limit: limit,
+            ..choices
+        },
         number: 0,
     }
 }
 
 // An expiry out of range gives 20 and changes nothing.
 pub fn with_discovery_expiry(choices: Choices, expiry: u32) -> Adjusted
-    ensures set { (settings_of result.choices ≡ (expiring expiry (settings_of choices)).settings)
-        × (result.number ≡ number_of (expiring expiry (settings_of choices)).answer) }
+    ensures set { let s = settings_of choices in
+        (settings_of result.choices ≡ kept (expiring expiry s) s) × (result.number ≡ number_of (expiring expiry s)) }
     ensures left { result.number ≡ 20 → result.choices ≡ choices }
 {
-    if is_expiry_in_range(expiry) {
-        let mut c = choices;
-        c.discovery_expiry = expiry;
+    if !is_expiry_in_range(expiry) {
         return Adjusted {
-            choices: c,
-            number: 0,
+            choices,
+            number: 20,
         };
     }
     Adjusted {
-        choices,
-        number: 20,
+        choices: Choices {
+            discovery_expiry: expiry,
+            ..choices
+        },
+        number: 0,
     }
 }
