@@ -1,7 +1,7 @@
 -- What is read out of the receiver, as its parts have it; and a list's entries where its rows lie.
 -- Assumes nothing.
-use Rattle.std.specs.Prelude.{◌≡◌, refl, Bool, true, false, List, [], ◌∷◌, map, ℕ, zero, suc, ◌*◌, ◌≤◌, ◌<◌, min, ltb, length, take, drop, get_or, replicate}
-use Rattle.std.proofs.Common.{sym, ap, ◌∙◌, arith, length-take, drop_of_length-le, get_or-take, take_all, ltb-true, ltb-false}
+use Rattle.std.specs.Prelude.{◌≡◌, refl, Bool, true, false, List, [], map, ℕ, ◌*◌, ◌≤◌, ◌<◌, min, ltb, length, take, drop, get_or, replicate}
+use Rattle.std.proofs.Common.{sym, ap, ◌∙◌, arith, drop_of_length-le, get_or-take, take_all, ltb-true, ltb-false}
 use Rattle.laws.specs.Cases.{split}
 use Rattle.laws.specs.Place.{get_d_map}
 use Rattle.rules.specs.declared.Cid.{Cid}
@@ -64,26 +64,12 @@ abbrev pub longest : ℕ
 longest = 9223372036854775807
 
 -- ── entries ──
-past_end : {A : Type 0} (l : List A) (i : ℕ) (d : A) → length l ≤ i → get_or l i d ≡ d
-past_end [] i d h = refl
-past_end (x ∷ l) zero d h = absurd (omega arith)
-past_end (x ∷ l) (suc i) d h = past_end l i d (omega arith)
+-- a row that says what no row says stands for none
+module _ {A B : Type 0} (f : A → B) (z d : A) (e : f z ≡ f d) (n i : ℕ) (rows : List A) where
+  pub told_at : f (get_or (take n rows) i z) ≡ get_or (map f (take n rows)) i (f d)
+  told_at = sym (get_d_map f (take n rows) i z) ∙ ap (get_or (map f (take n rows)) i) e
 
-module _ {A B : Type 0} (f : A → B) (n i : ℕ) (rows : List A) (d : A) where
-  pub entry_at : i < n → get_or (map f (take n rows)) i (f d) ≡ f (get_or rows i d)
-  entry_at h = get_d_map f (take n rows) i d ∙ ap f (get_or-take n rows i d h)
-
-  pub entry_past : length (take n rows) ≤ i → get_or (map f (take n rows)) i (f d) ≡ f d
-  entry_past h = get_d_map f (take n rows) i d ∙ ap f (past_end (take n rows) i d h)
-
-  -- fewer are in use, or fewer are there
-  pub none_in_use : n ≤ i → get_or (map f (take n rows)) i (f d) ≡ f d
-  none_in_use h = entry_past (omega (arith, length-take n rows))
-
-  pub none_there : length rows ≤ i → get_or (map f (take n rows)) i (f d) ≡ f d
-  none_there h = entry_past (omega (arith, length-take n rows))
-
--- a row of zeros says what no row says
+-- a row of zeros does
 pub zero_pair : pair_of (replicate 4 0) ≡ pair_of []
 unfolding pair_of cid_of
 zero_pair = refl
@@ -91,17 +77,6 @@ zero_pair = refl
 pub zero_cid : cid_of (replicate 2 0) ≡ cid_of []
 unfolding cid_of
 zero_cid = refl
-
--- ── numbers as they stand ──
-module _ (n i : ℕ) (rows : List ℕ) where
-  pub number_at : i < n → get_or (take n rows) i 0 ≡ get_or rows i 0
-  number_at h = get_or-take n rows i 0 h
-
-  pub number_unused : n ≤ i → get_or (take n rows) i 0 ≡ 0
-  number_unused h = past_end (take n rows) i 0 (omega (arith, length-take n rows))
-
-  pub number_absent : length rows ≤ i → get_or (take n rows) i 0 ≡ 0
-  number_absent h = past_end (take n rows) i 0 (omega (arith, length-take n rows))
 
 -- ── waiting data ──
 abbrev pub dmx_of : DmxData → SourceCid → DmxData

@@ -9,19 +9,15 @@ ghost use Rattle.discovery_reads.specs.Reads.{page_of_row, SourceAt, PageAt, Hea
 ghost use Rattle.listening.specs.View.{listened_of};
 ghost use Rattle.boundary.specs.Boundary.{receiver_of};
 ghost use Rattle.reads.specs.Reads.{pair_read, cid_read, dmx_read, head_read, page_read, no_source, no_page, longest};
-ghost use Rattle.pairs.specs.Table.{capacity as most_pairs};
-ghost use Rattle.waiting.specs.Waiting.{capacity as most_waiting};
-ghost use Rattle.discovery.specs.Discovery.{capacity as most_pages};
-ghost use Rattle.model.specs.Step.{most_listened};
 
-use boundary::Header;
-use discovery_calls::Discovery;
-use discovery_reads::{page_head, page_start, place_of_page, source_head, source_place, within};
+use boundary::{Header, receiver_of};
+use discovery_reads::{page_head, page_start, place_of_page, source_head, source_place};
 use discovery_rows::{HeadRows, PageRows};
-use listening::{LISTENED, ListenedUniverses};
+use listening::ListenedUniverses;
 use merge::{DmxData, SourceCid, VALUES};
-use pair_rows::{PAIRS, PairRows, SourceRows};
+use pair_rows::{PairRow, PairRows, SourceRow, SourceRows, cid_of, pair_of};
 use rules::Cid;
+use waiting::WAITING;
 use waiting_calls::Waiting;
 use waiting_store::{EntryRows, count_of};
 
@@ -87,125 +83,102 @@ pub struct PageRead {
     pub place: usize,
 }
 
-fn read_pair(row: [u64; 4]) -> PairRead
+// The entry at this place of the first count, as far as there are so many; past the last, the one that stands for none.
+fn entry_at<T: Copy>(rows: &[T], count: usize, at: usize, none: T) -> T
+    ensures { result ≡ get_or (take count rows.now) at none }
+{
+    if at < count.min(rows.len()) {
+        rows[at]
+    } else {
+        none
+    }
+}
+
+fn read_pair(row: PairRow) -> PairRead
     ensures { pair_read result ≡ pair_of row }
 {
+    let pair = pair_of(row);
     PairRead {
-        hi: row[0],
-        lo: row[1],
-        reading: row[3],
-        universe: (row[2] / 256 % 65536) as u16,
-        sequence: (row[2] % 256) as u8,
+        hi: pair.cid.hi,
+        lo: pair.cid.lo,
+        reading: pair.reading,
+        universe: pair.universe,
+        sequence: pair.sequence,
     }
 }
 
 pub fn pair_at(pairs: &PairRows, count: usize, at: usize) -> PairRead
-    requires { length pairs.now ≡ most_pairs }
     ensures { pair_read result ≡ get_or (pairs_of count pairs.now) at (pair_of []) }
 {
-    if count <= at {
-        return read_pair([0u64; 4]);
-    }
-    if PAIRS <= at {
-        return read_pair([0u64; 4]);
-    }
-    let row = pairs[at];
-    read_pair(row)
+    read_pair(entry_at(pairs, count, at, [0; 4]))
 }
 
-fn read_cid(row: [u64; 2]) -> CidRead
+fn read_cid(row: SourceRow) -> CidRead
     ensures { cid_read result ≡ cid_of row }
 {
+    let cid = cid_of(row);
     CidRead {
-        hi: row[0],
-        lo: row[1],
+        hi: cid.hi,
+        lo: cid.lo,
     }
 }
 
 pub fn cid_at(sources: &SourceRows, count: usize, at: usize) -> CidRead
-    requires { length sources.now ≡ most_pairs }
     ensures { cid_read result ≡ get_or (listed_sources_of count sources.now) at (cid_of []) }
 {
-    if count <= at {
-        return read_cid([0u64; 2]);
-    }
-    if PAIRS <= at {
-        return read_cid([0u64; 2]);
-    }
-    let row = sources[at];
-    read_cid(row)
+    read_cid(entry_at(sources, count, at, [0; 2]))
 }
 
 // A listened universe, ascending.
 pub fn listened_at(header: Header, heard: &ListenedUniverses, at: usize) -> u16
-    requires { length heard.now ≡ most_listened }
     ensures { result ≡ get_or (listened_of (receiver_of header).listened heard.now) at 0 }
 {
-    if header.listened <= at {
-        return 0;
-    }
-    if LISTENED <= at {
-        return 0;
-    }
-    heard[at]
+    entry_at(heard, header.listened, at, 0)
 }
 
 fn read_dmx(d: DmxData) -> DmxRead
     ensures { dmx_read result ≡ d }
 {
-    let owner = d.src_cid;
-    match owner {
-        SourceCid::Merged => DmxRead {
-            hi: 0,
-            lo: 0,
-            reading: d.recv_timestamp,
-            universe: d.universe,
-            address: d.sync_uni,
-            priority: d.priority,
-            preview: d.preview,
-            has_cid: false,
-        },
-        SourceCid::Of(c) => DmxRead {
-            hi: c.hi,
-            lo: c.lo,
-            reading: d.recv_timestamp,
-            universe: d.universe,
-            address: d.sync_uni,
-            priority: d.priority,
-            preview: d.preview,
-            has_cid: true,
-        },
+    let (has_cid, hi, lo) = match d.src_cid {
+        SourceCid::Merged => (false, 0, 0),
+        SourceCid::Of(c) => (true, c.hi, c.lo),
+    };
+    DmxRead {
+        hi,
+        lo,
+        reading: d.recv_timestamp,
+        universe: d.universe,
+        address: d.sync_uni,
+        priority: d.priority,
+        preview: d.preview,
+        has_cid,
     }
 }
 
 // What waits for a universe, ascending, but for its values.
 pub fn waiting_at(header: Header, rows: &EntryRows, at: usize) -> DmxRead
-    requires { length rows.now ≡ most_waiting }
     ensures { (store : List ℕ) →
         dmx_read result ≡ (get_or (waiting_of (receiver_of header).waiting.count rows.now store) at nothing).head }
 {
-    let count = within(header.waiting);
-    let w = Waiting { count };
-    let d = w.waiting_data(rows, at);
-    read_dmx(d)
+    let waiting = Waiting {
+        count: header.waiting.min(WAITING),
+    };
+    read_dmx(waiting.waiting_data(rows, at))
 }
 
 // Where its values lie in the store.
 pub fn waiting_values_at(header: Header, rows: &EntryRows, at: usize) -> PartRead
-    requires { length rows.now ≡ most_waiting }
     ensures { (store : List ℕ) →
         take result.count (drop result.start store)
         ≡ (get_or (waiting_of (receiver_of header).waiting.count rows.now store) at nothing).values }
 {
-    let waiting = within(header.waiting);
-    if waiting <= at {
-        return PartRead { start: 0, count: 0 };
-    }
-    let row = rows[at];
-    let count = count_of(row);
-    PartRead {
-        start: at * VALUES,
-        count: count,
+    if at < header.waiting.min(WAITING) {
+        PartRead {
+            start: at * VALUES,
+            count: count_of(rows[at]),
+        }
+    } else {
+        PartRead { start: 0, count: 0 }
     }
 }
 
@@ -214,72 +187,58 @@ const LONGEST: usize = 9223372036854775807;
 
 // The source of this mark (0 partial, 1 listed), by its place in its list; where there are not so many, the place is the number of sources, and the rest is zeros.
 pub fn source_at(header: Header, sources: &HeadRows, mark: u64, at: usize) -> SourceRead
-    requires { length sources.now ≡ most_pages }
     ensures placed { (names pages : List (List ℕ)) (universes : List ℕ) →
         SourceAt mark at result.place (receiver_of header).discovery sources.now names pages universes }
     ensures told { result.place < (receiver_of header).discovery.source_count →
         HeadRead (get_or sources.now result.place []) (head_read result) }
     ensures past { (receiver_of header).discovery.source_count ≤ result.place → result ≡ no_source result.place }
 {
-    let d = Discovery {
-        source_count: header.sources,
-        page_count: header.pages,
-        used: header.page_universes,
-    };
-    let place = source_place(d, sources, mark, at);
-    if header.sources <= place {
+    let discovery = receiver_of(header).discovery;
+    let place = source_place(discovery, sources, mark, at);
+    if discovery.source_count <= place {
         return SourceRead {
             hi: 0,
             lo: 0,
             reading: 0,
             last_page: 0,
             name_length: 0,
-            place: place,
+            place,
         };
     }
-    let row = sources[place];
-    let h = source_head(row);
+    let h = source_head(sources[place]);
     SourceRead {
         hi: h.cid.hi,
         lo: h.cid.lo,
         reading: h.reading,
         last_page: h.last_page,
         name_length: h.name_length,
-        place: place,
+        place,
     }
 }
 
 // The page of this source, by its place among the source's pages; where there are not so many, the place is the number of pages, and the rest is zeros.
 pub fn page_at(header: Header, pages: &PageRows, mark: u64, hi: u64, lo: u64, at: usize) -> PageRead
-    requires { length pages.now ≡ most_pages }
     ensures placed { (universes : List ℕ) →
         PageAt mark (record { hi = hi; lo = lo }) at result.place (receiver_of header).discovery pages.now universes }
     ensures told { result.place < (receiver_of header).discovery.page_count → (universes : List ℕ) → length universes ≤ longest →
         page_of_row pages.now universes result.place ≡ page_read result universes }
     ensures past { (receiver_of header).discovery.page_count ≤ result.place → result ≡ no_page result.place }
 {
-    let d = Discovery {
-        source_count: header.sources,
-        page_count: header.pages,
-        used: header.page_universes,
-    };
-    let cid = Cid { hi, lo };
-    let place = place_of_page(d, pages, mark, cid, at);
-    if header.pages <= place {
+    let discovery = receiver_of(header).discovery;
+    let place = place_of_page(discovery, pages, mark, Cid { hi, lo }, at);
+    if discovery.page_count <= place {
         return PageRead {
             number: 0,
             count: 0,
             start: 0,
-            place: place,
+            place,
         };
     }
-    let start = page_start(pages, place, LONGEST);
-    let row = pages[place];
-    let h = page_head(row);
+    let h = page_head(pages[place]);
     PageRead {
         number: h.number,
         count: h.count,
-        start: start,
-        place: place,
+        start: page_start(pages, place, LONGEST),
+        place,
     }
 }

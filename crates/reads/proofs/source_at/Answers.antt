@@ -8,10 +8,8 @@ use Rattle.reads.proofs.source_at.Goals as goal
 
 pub offset_bounds-sources-place : goal.offset_bounds-sources-place
 offset_bounds-sources-place c =
-    let row-there : c.source_place-place.result < 64 = omega (arith, c.requires, (c.source_place-place.ensures [] [] []).inside c.if-header-place.false) in
+    let row-there : c.source_place-place.result < 64 = omega (arith, c.told-sources, (c.source_place-place.ensures [] [] []).inside c.if-discovery-place.false) in
     let h = row-there in search rules
 
 pub bounds-sources-place : goal.bounds-sources-place
-bounds-sources-place c =
-    let row-there : c.source_place-place.result < 64 = omega (arith, c.requires, (c.source_place-place.ensures [] [] []).inside c.if-header-place.false) in
-    row-there
+bounds-sources-place c = omega (arith, c.told-sources, (c.source_place-place.ensures [] [] []).inside c.if-discovery-place.false)

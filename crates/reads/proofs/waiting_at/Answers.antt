@@ -11,6 +11,5 @@ use Rattle.reads.proofs.waiting_at.Goals as goal
 pub returns : goal.returns
 returns c store =
     let v = c.args in
-    let w = c.within-count in
-    c.read_dmx.ensures ∙ c.waiting_data-d.ensures store
-    ∙ ap (λ (ds : List Dmx). (get_or ds v.at nothing).head) (waiting_within v.header.waiting w.result v.rows.now store c.requires w.ensures)
+    c.read_dmx.ensures ∙ c.waiting_data.ensures store
+    ∙ ap (λ (ds : List Dmx). (get_or ds v.at nothing).head) (waiting_within v.header.waiting c.min.result v.rows.now store c.told-rows c.min.ensures)

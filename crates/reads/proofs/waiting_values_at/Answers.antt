@@ -10,16 +10,14 @@ use Rattle.waiting_calls.specs.Calls.{values_past}
 use Rattle.reads.specs.Reads.{values_lie, waiting_within}
 use Rattle.reads.proofs.waiting_values_at.Goals as goal
 
-pub returns-then-waiting-at : goal.returns-then-waiting-at
-returns-then-waiting-at c =
+pub returns-then-at-min : goal.returns-then-at-min
+returns-then-at-min c =
     let v = c.args in
-    let w = c.within-waiting in
-    λ store. values_past w.result v.at v.rows.now store c.if-waiting-at.true
-    ∙ ap (λ (ds : List Dmx). (get_or ds v.at nothing).values) (waiting_within v.header.waiting w.result v.rows.now store c.requires w.ensures)
+    let h = c.if-at-min.true in
+    λ store. values_lie v.header.waiting v.at c.count_of.result v.rows.now store (omega (arith, h, c.min.ensures)) (omega (arith, h, c.min.ensures, c.told-rows)) c.count_of.ensures
 
-pub returns : goal.returns
-returns c =
+pub returns-else-at-min : goal.returns-else-at-min
+returns-else-at-min c =
     let v = c.args in
-    let w = c.within-waiting in
-    let h = c.if-waiting-at.false in
-    λ store. values_lie v.header.waiting v.at c.count_of-count.result v.rows.now store (omega (arith, w.ensures)) (omega (arith, w.ensures, c.requires)) c.count_of-count.ensures
+    λ store. values_past c.min.result v.at v.rows.now store c.if-at-min.false
+    ∙ ap (λ (ds : List Dmx). (get_or ds v.at nothing).values) (waiting_within v.header.waiting c.min.result v.rows.now store c.told-rows c.min.ensures)
