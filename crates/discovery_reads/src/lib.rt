@@ -147,11 +147,11 @@ pub fn page_start(pages: &PageRows, at: usize, most: usize) -> usize
         .fold(0, |start, row| advance(start, row[4], most))
 }
 
-// n further, but not past most.
+// n further, but not past most. It is cut to most before it is a usize, which has 32 bits on some targets.
 fn advance(start: usize, n: u64, most: usize) -> usize
     ensures { result ≡ min (start + n) most }
 {
-    start.saturating_add(n as usize).min(most)
+    start.saturating_add(n.min(most as u64) as usize).min(most)
 }
 
 // The universes of the page in this row, as far as they lie in the pool; none past the last page.
