@@ -1,17 +1,18 @@
 -- What the exported calls' proofs cite: one law for each kind of return.
 -- Assumes nothing.
-use Rattle.std.specs.Prelude.{◌≡◌, List, ℕ}
+use Rattle.std.specs.Prelude.{Result, ◌≡◌, List, ℕ}
 use Rattle.std.proofs.Common.{sym, subst}
 use Rattle.rules.specs.Answer.{Value}
 use Rattle.settings.specs.declared.Settings.{Settings}
 use Rattle.settings_store.specs.declared.Layouts.{Layouts}
-use Rattle.settings_store.specs.declared.StoreSettingsAnswer.{StoreSettingsAnswer}
-use Rattle.settings_store.specs.declared.LoadSettingsAnswer.{LoadSettingsAnswer}
+use Rattle.settings_store.specs.declared.StoreSettingsError.{StoreSettingsError}
+use Rattle.settings_store.specs.declared.LoadSettingsError.{LoadSettingsError}
 use Rattle.settings_store.specs.Record.{Stores, Loads}
 use Rattle.model.specs.State.{State}
 use Rattle.model.specs.Packet.{Packet}
 use Rattle.receiver.specs.declared.Receiver.{Receiver}
-use Rattle.steps.specs.declared.Handled.{Handled}
+use Rattle.laws.specs.declared.After.{After}
+use Rattle.model.specs.declared.StepAnswer.{StepAnswer}
 use Rattle.receiver.specs.View.{Memory, Kept, Does, Begins, Becomes}
 use Rattle.handlers.specs.View.{Steps}
 use Rattle.boundary.specs.declared.Header.{Header}
@@ -28,14 +29,14 @@ pub kept_there : (h : Header) (r : Receiver) (m : Memory) → r ≡ receiver_of 
 kept_there h r m e k = subst (λ (x : Receiver). Kept x m) (sym e) k
 
 -- what the receiver's step ensures, told over the boundary
-pub replies : (S : Settings) (now : ℕ) (p : Packet) (h : Header) (m : Memory) (out : List ℕ) (x : Handled) (m' : Memory) (out' : List ℕ)
-    (T : Settings) (q : Packet) (r : Receiver) (y : Reply) → T ≡ S → q ≡ p → r ≡ receiver_of h → Steps T now q r m out x.receiver m' out' x.answer → y ≡ reply_of x
+pub replies : (S : Settings) (now : ℕ) (p : Packet) (h : Header) (m : Memory) (out : List ℕ) (x : After Receiver StepAnswer) (m' : Memory) (out' : List ℕ)
+    (T : Settings) (q : Packet) (r : Receiver) (y : Reply) → T ≡ S → q ≡ p → r ≡ receiver_of h → Steps T now q r m out x.left m' out' x.answer → y ≡ reply_of x
     → Replies S now p h m out y m' out'
 replies S now p h m out x m' out' T q r y a b c z e =
     subst (λ (w : Reply). Replies S now p h m out w m' out') (sym e)
     (record {
       answer = x.answer;
-      steps = subst (λ (w : Receiver). Steps S now p w m out x.receiver m' out' x.answer) c (subst (λ (w : Packet). Steps S now w r m out x.receiver m' out' x.answer) b (subst (λ (w : Settings). Steps w now q r m out x.receiver m' out' x.answer) a z));
+      steps = subst (λ (w : Receiver). Steps S now p w m out x.left m' out' x.answer) c (subst (λ (w : Packet). Steps S now w r m out x.left m' out' x.answer) b (subst (λ (w : Settings). Steps w now q r m out x.left m' out' x.answer) a z));
       number_is = step_number_lem x.answer;
       values_are = λ own. step_values_lem own x.answer;
     })
@@ -61,7 +62,7 @@ pub become : (call : State → State) (h : Header) (m : Memory) (f r : Receiver)
 become call h m f r x e z p = subst (λ (w : Header). Becomes call (receiver_of h) (receiver_of w) m) (sym p) (subst (λ (w : Receiver). Becomes call w r m) e z)
 
 -- ── settings records ──
-pub stores_settings : (c : Choices) (before after : List ℕ) (S : Settings) (a : StoreSettingsAnswer) (r : Answer) → S ≡ settings_of c → Stores S before a after → r ≡ stored_of a → StoresSettings c before r after
+pub stores_settings : (c : Choices) (before after : List ℕ) (S : Settings) (a : Result Unit StoreSettingsError) (r : Answer) → S ≡ settings_of c → Stores S before a after → r ≡ stored_of a → StoresSettings c before r after
 stores_settings c before after S a r e z q =
     subst (λ (w : Answer). StoresSettings c before w after) (sym q)
     (record {
@@ -71,7 +72,7 @@ stores_settings c before after S a r e z q =
       values_are = (tells_store a).values_are;
     })
 
-pub loads_settings : (layouts : Layouts) (c : Choices) (bytes : List ℕ) (a : LoadSettingsAnswer) (r : Adjusted) → Loads layouts bytes a → r ≡ loaded_of c a → LoadsSettings layouts c bytes r
+pub loads_settings : (layouts : Layouts) (c : Choices) (bytes : List ℕ) (a : Result Settings LoadSettingsError) (r : Adjusted) → Loads layouts bytes a → r ≡ loaded_of c a → LoadsSettings layouts c bytes r
 loads_settings layouts c bytes a r z q =
     subst (λ (w : Adjusted). LoadsSettings layouts c bytes w) (sym q)
     (record {

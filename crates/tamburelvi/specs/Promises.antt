@@ -1,12 +1,11 @@
 -- What an exported call promises.
 -- Assumes nothing.
-use Rattle.std.specs.Prelude.{◌≡◌, List, ℕ}
+use Rattle.std.specs.Prelude.{Result, Ok, ◌≡◌, List, ℕ}
 use Rattle.rules.specs.Answer.{Value}
 use Rattle.settings.specs.declared.Settings.{Settings}
 use Rattle.settings_store.specs.declared.Layouts.{Layouts}
-use Rattle.settings_store.specs.declared.StoreSettingsAnswer.{StoreSettingsAnswer}
-use Rattle.settings_store.specs.declared.LoadSettingsAnswer.{LoadSettingsAnswer}
-use Rattle.settings_store.specs.declared.LoadSettingsAnswer.TheVariants.{Loaded}
+use Rattle.settings_store.specs.declared.StoreSettingsError.{StoreSettingsError}
+use Rattle.settings_store.specs.declared.LoadSettingsError.{LoadSettingsError}
 use Rattle.settings_store.specs.Record.{store_number, store_values, load_number, Stores, Loads}
 use Rattle.model.specs.declared.StepAnswer.{StepAnswer}
 use Rattle.model.specs.Answer.{step_number, step_values}
@@ -37,15 +36,15 @@ pub record Answers {A : Type 0} (call : State → State × A) (number : A → �
 
 -- the writer of a settings record: its own promise for the settings that the caller's stand for, and an answer with its number and values
 pub record StoresSettings (c : Choices) (before : List ℕ) (r : Answer) (after : List ℕ) : Type 0 where
-  pub answer : StoreSettingsAnswer
+  pub answer : Result Unit StoreSettingsError
   pub stores : Stores (settings_of c) before answer after
   pub number_is : r.number ≡ store_number answer
   pub values_are : (own : List ℕ) → values_in own r ≡ store_values answer
 
 -- its reader: its own promise, the number, and what the caller's settings become: those that were read, on a stop what they were, field by field
 pub record LoadsSettings (layouts : Layouts) (c : Choices) (bytes : List ℕ) (r : Adjusted) : Type 0 where
-  pub answer : LoadSettingsAnswer
+  pub answer : Result Settings LoadSettingsError
   pub loads : Loads layouts bytes answer
   pub number_is : r.number ≡ load_number answer
-  pub taken : (s : Settings) → answer ≡ Loaded s → settings_of r.choices ≡ s
+  pub taken : (s : Settings) → answer ≡ Ok s → settings_of r.choices ≡ s
   pub left : (r.number ≡ 0 → ⊥) → r.choices ≡ c

@@ -3,7 +3,7 @@
 #![tactic(auto)]
 
 ghost use Rattle.std.specs.Prelude.{◌≡◌, length};
-ghost use Rattle.settings.specs.Settings.{fresh, with_preview, with_discovery, with_termination, with_timeout, with_merge, without_limit, limited, expiring, number_of};
+ghost use Rattle.settings.specs.Settings.{fresh, with_preview, with_discovery, with_termination, with_timeout, with_merge, without_limit, limited, expiring, kept, number_of};
 ghost use Rattle.settings_store.specs.declared.Layouts.TheVariants.{First, Both};
 ghost use Rattle.settings_store.specs.Record.{merge_of};
 ghost use Rattle.listening.specs.View as listening;
@@ -19,7 +19,6 @@ ghost use Rattle.sequences.specs.Promises.{sequence_rows_in};
 ghost use Rattle.receiver.specs.Promises.{data_packet_lent_in, data_packet_lent, sync_packet_lent_in, sync_packet_lent, discovery_packet_lent_in, discovery_packet_lent, sequences_lent, waiting_lent, listened_lent, discovery_lent};
 ghost use Rattle.boundary.specs.Boundary.{receiver_of, settings_of, packet_in, sync_in, announced_in};
 ghost use Rattle.tamburelvi.specs.Promises.{Replies, Answers, StoresSettings, LoadsSettings};
-ghost use Rattle.model.specs.Step.{most_listened};
 
 pub mod read_outs;
 
@@ -65,11 +64,8 @@ pub extern "C" fn tamburelvi_handle_data_packet(
         Replies (settings_of choices) reading (data_packet (packet_in «data» values.now))
         header m.entry out.old result m.exit out.new }
 {
-    let receiver = receiver_of(header);
-    let settings = settings_of(choices);
-    let packet = data_of(data);
-    let h = handle_data_packet(
-        receiver,
+    step_reply(handle_data_packet(
+        receiver_of(header),
         data_pairs,
         data_sources,
         sync_pairs,
@@ -81,13 +77,12 @@ pub extern "C" fn tamburelvi_handle_data_packet(
         names,
         pages,
         universes,
-        settings,
+        settings_of(choices),
         reading,
-        packet,
+        data_of(data),
         values,
         out,
-    );
-    step_reply(h)
+    ))
 }
 
 // A step on a synchronisation packet.
@@ -116,11 +111,8 @@ pub extern "C" fn tamburelvi_handle_sync_packet(
         Replies (settings_of choices) reading (sync_packet (sync_in sync))
         header m.entry out.old result m.exit out.new }
 {
-    let receiver = receiver_of(header);
-    let settings = settings_of(choices);
-    let packet = sync_of(sync);
-    let h = handle_sync_packet(
-        receiver,
+    step_reply(handle_sync_packet(
+        receiver_of(header),
         data_pairs,
         data_sources,
         sync_pairs,
@@ -132,12 +124,11 @@ pub extern "C" fn tamburelvi_handle_sync_packet(
         names,
         pages,
         universes,
-        settings,
+        settings_of(choices),
         reading,
-        packet,
+        sync_of(sync),
         out,
-    );
-    step_reply(h)
+    ))
 }
 
 // A step on a discovery packet, with its name and its universes.
@@ -168,11 +159,8 @@ pub extern "C" fn tamburelvi_handle_universe_discovery_packet(
         Replies (settings_of choices) reading (discovery_packet (announced_in page name.now list.now))
         header m.entry out.now result m.exit out.now }
 {
-    let receiver = receiver_of(header);
-    let settings = settings_of(choices);
-    let packet = discovery_of(page);
-    let h = handle_universe_discovery_packet(
-        receiver,
+    step_reply(handle_universe_discovery_packet(
+        receiver_of(header),
         data_pairs,
         data_sources,
         sync_pairs,
@@ -184,14 +172,13 @@ pub extern "C" fn tamburelvi_handle_universe_discovery_packet(
         names,
         pages,
         universes,
-        settings,
+        settings_of(choices),
         reading,
-        packet,
+        discovery_of(page),
         name,
         list,
         out,
-    );
-    step_reply(h)
+    ))
 }
 
 // The sweeps that a step begins with.
@@ -213,23 +200,20 @@ pub extern "C" fn tamburelvi_poll(
         let m = sequences_lent data_pairs data_sources sync_pairs sync_sources (waiting_lent rows store (untouched rest)) in
         Answers (poll_call (length store.old) (settings_of choices) reading) poll_number poll_values header m.entry result m.exit }
 {
-    let receiver = receiver_of(header);
-    let settings = settings_of(choices);
-    let h = receiver.poll(
+    let h = receiver_of(header).poll(
         data_pairs,
         data_sources,
         sync_pairs,
         sync_sources,
         rows,
         store,
-        settings,
+        settings_of(choices),
         reading,
     );
-    let left = h.receiver;
-    let said = h.answer;
-    let header = header_of(left);
-    let answer = polled(said);
-    Reply { header, answer }
+    Reply {
+        header: header_of(h.left),
+        answer: polled(h.answer),
+    }
 }
 
 // The discovery sweep, by the settings' discovery expiry.
@@ -248,14 +232,18 @@ pub extern "C" fn tamburelvi_remove_expired_sources(
         let m = discovery_lent sources names pages universes (untouched rest) in
         Answers (expiry_call (bytes universes.old) (settings_of choices) reading) expiry_number expiry_values header m.entry result m.exit }
 {
-    let receiver = receiver_of(header);
-    let settings = settings_of(choices);
-    let h = receiver.remove_expired_sources(sources, names, pages, universes, settings, reading);
-    let left = h.receiver;
-    let said = h.answer;
-    let header = header_of(left);
-    let answer = swept(said);
-    Reply { header, answer }
+    let h = receiver_of(header).remove_expired_sources(
+        sources,
+        names,
+        pages,
+        universes,
+        settings_of(choices),
+        reading,
+    );
+    Reply {
+        header: header_of(h.left),
+        answer: swept(h.answer),
+    }
 }
 
 // Listens to all of the universes, or to none.
@@ -270,13 +258,11 @@ pub extern "C" fn tamburelvi_listen_universes(
         let m = listened_lent heard (untouched rest) in
         Answers (listen_call list.now) listen_number listen_values header m.entry result m.exit }
 {
-    let receiver = receiver_of(header);
-    let h = receiver.listen_universes(heard, list);
-    let left = h.receiver;
-    let said = h.answer;
-    let header = header_of(left);
-    let answer = heard_answer(said);
-    Reply { header, answer }
+    let h = receiver_of(header).listen_universes(heard, list);
+    Reply {
+        header: header_of(h.left),
+        answer: heard_answer(h.answer),
+    }
 }
 
 // Listens to the universe no longer.
@@ -291,13 +277,11 @@ pub extern "C" fn tamburelvi_mute_universe(
         let m = listened_lent heard (untouched rest) in
         Answers (mute_call universe) mute_number mute_values header m.entry result m.exit }
 {
-    let receiver = receiver_of(header);
-    let h = receiver.mute_universe(heard, universe);
-    let left = h.receiver;
-    let said = h.answer;
-    let header = header_of(left);
-    let answer = muted(said);
-    Reply { header, answer }
+    let h = receiver_of(header).mute_universe(heard, universe);
+    Reply {
+        header: header_of(h.left),
+        answer: muted(h.answer),
+    }
 }
 
 // Forgets the universe's waiting data; answers whether there was any.
@@ -313,23 +297,19 @@ pub extern "C" fn tamburelvi_clear_waiting_data(
         let m = waiting_lent rows store (untouched rest) in
         Answers (clear_call (length store.old) universe) clear_number clear_values header m.entry result m.exit }
 {
-    let receiver = receiver_of(header);
-    let h = receiver.clear_waiting_data(rows, store, universe);
-    let left = h.receiver;
-    let said = h.answer;
-    let header = header_of(left);
-    let answer = cleared(said);
-    Reply { header, answer }
+    let h = receiver_of(header).clear_waiting_data(rows, store, universe);
+    Reply {
+        header: header_of(h.left),
+        answer: cleared(h.answer),
+    }
 }
 
 // A fresh receiver; but for the listened universes the memory may hold anything.
 #[unsafe(no_mangle)]
 pub extern "C" fn tamburelvi_new(heard: &mut ListenedUniverses) -> Header
-    requires { length heard.old ≡ most_listened }
     ensures { (m : Memory) → Begins (receiver_of result) (with_listened_rows heard.new m) }
 {
-    let receiver = Receiver::new(heard);
-    header_of(receiver)
+    header_of(Receiver::new(heard))
 }
 
 #[unsafe(no_mangle)]
@@ -341,8 +321,7 @@ pub extern "C" fn tamburelvi_is_listening(
     requires { listening.Kept (receiver_of header).listened heard.now }
     ensures { (m : Memory) → result ≡ listens universe (state_of (receiver_of header) (with_listened_rows heard.now m)).listened }
 {
-    let receiver = receiver_of(header);
-    receiver.is_listening(heard, universe)
+    receiver_of(header).is_listening(heard, universe)
 }
 
 // Forgets all waiting data.
@@ -350,9 +329,7 @@ pub extern "C" fn tamburelvi_is_listening(
 pub extern "C" fn tamburelvi_clear_all_waiting_data(header: Header) -> Header
     ensures { (m : Memory) → Becomes clear_all_call (receiver_of header) (receiver_of result) m }
 {
-    let receiver = receiver_of(header);
-    let left = receiver.clear_all_waiting_data();
-    header_of(left)
+    header_of(receiver_of(header).clear_all_waiting_data())
 }
 
 // Forgets both pair tables; the discovery lists and waiting data stay.
@@ -360,9 +337,7 @@ pub extern "C" fn tamburelvi_clear_all_waiting_data(header: Header) -> Header
 pub extern "C" fn tamburelvi_reset_pairs(header: Header) -> Header
     ensures { (m : Memory) → Becomes reset_pairs_call (receiver_of header) (receiver_of result) m }
 {
-    let receiver = receiver_of(header);
-    let left = receiver.reset_pairs();
-    header_of(left)
+    header_of(receiver_of(header).reset_pairs())
 }
 
 // Forgets both discovery lists; the pair tables and waiting data stay.
@@ -370,9 +345,7 @@ pub extern "C" fn tamburelvi_reset_pairs(header: Header) -> Header
 pub extern "C" fn tamburelvi_reset_discovery(header: Header) -> Header
     ensures { (m : Memory) → Becomes reset_discovery_call (receiver_of header) (receiver_of result) m }
 {
-    let receiver = receiver_of(header);
-    let left = receiver.reset_discovery();
-    header_of(left)
+    header_of(receiver_of(header).reset_discovery())
 }
 
 // The two in turn.
@@ -380,9 +353,7 @@ pub extern "C" fn tamburelvi_reset_discovery(header: Header) -> Header
 pub extern "C" fn tamburelvi_reset_sources(header: Header) -> Header
     ensures { (m : Memory) → Becomes reset_call (receiver_of header) (receiver_of result) m }
 {
-    let receiver = receiver_of(header);
-    let left = receiver.reset_sources();
-    header_of(left)
+    header_of(receiver_of(header).reset_sources())
 }
 
 // The fresh settings.
@@ -405,36 +376,40 @@ pub extern "C" fn tamburelvi_fresh_settings() -> Choices
 pub extern "C" fn tamburelvi_set_process_preview_data(choices: Choices, on: bool) -> Choices
     ensures { settings_of result ≡ with_preview on (settings_of choices) }
 {
-    let mut c = choices;
-    c.process_preview_data = on;
-    c
+    Choices {
+        process_preview_data: on,
+        ..choices
+    }
 }
 
 #[unsafe(no_mangle)]
 pub extern "C" fn tamburelvi_set_announce_source_discovery(choices: Choices, on: bool) -> Choices
     ensures { settings_of result ≡ with_discovery on (settings_of choices) }
 {
-    let mut c = choices;
-    c.announce_source_discovery = on;
-    c
+    Choices {
+        announce_source_discovery: on,
+        ..choices
+    }
 }
 
 #[unsafe(no_mangle)]
 pub extern "C" fn tamburelvi_set_announce_stream_termination(choices: Choices, on: bool) -> Choices
     ensures { settings_of result ≡ with_termination on (settings_of choices) }
 {
-    let mut c = choices;
-    c.announce_stream_termination = on;
-    c
+    Choices {
+        announce_stream_termination: on,
+        ..choices
+    }
 }
 
 #[unsafe(no_mangle)]
 pub extern "C" fn tamburelvi_set_announce_timeout(choices: Choices, on: bool) -> Choices
     ensures { settings_of result ≡ with_timeout on (settings_of choices) }
 {
-    let mut c = choices;
-    c.announce_timeout = on;
-    c
+    Choices {
+        announce_timeout: on,
+        ..choices
+    }
 }
 
 // 0 for the choice by priority, any other number for the highest values.
@@ -442,25 +417,24 @@ pub extern "C" fn tamburelvi_set_announce_timeout(choices: Choices, on: bool) ->
 pub extern "C" fn tamburelvi_set_merge(choices: Choices, merge: u8) -> Choices
     ensures { settings_of result ≡ with_merge (merge_of merge) (settings_of choices) }
 {
-    let mut c = choices;
-    c.merge = merge;
-    c
+    Choices { merge, ..choices }
 }
 
 #[unsafe(no_mangle)]
 pub extern "C" fn tamburelvi_clear_source_limit(choices: Choices) -> Choices
     ensures { settings_of result ≡ without_limit (settings_of choices) }
 {
-    let mut c = choices;
-    c.source_limit = 0;
-    c
+    Choices {
+        source_limit: 0,
+        ..choices
+    }
 }
 
 // A limit of 0 gives 14 and changes nothing.
 #[unsafe(no_mangle)]
 pub extern "C" fn tamburelvi_set_source_limit(choices: Choices, limit: u16) -> Adjusted
-    ensures set { (settings_of result.choices ≡ (limited limit (settings_of choices)).settings)
-        × (result.number ≡ number_of (limited limit (settings_of choices)).answer) }
+    ensures set { let s = settings_of choices in
+        (settings_of result.choices ≡ kept (limited limit s) s) × (result.number ≡ number_of (limited limit s)) }
     ensures left { result.number ≡ 14 → result.choices ≡ choices }
 {
     with_source_limit(choices, limit)
@@ -469,8 +443,8 @@ pub extern "C" fn tamburelvi_set_source_limit(choices: Choices, limit: u16) -> A
 // An expiry under 2,500 or over 60,000 gives 20 and changes nothing.
 #[unsafe(no_mangle)]
 pub extern "C" fn tamburelvi_set_discovery_expiry(choices: Choices, expiry: u32) -> Adjusted
-    ensures set { (settings_of result.choices ≡ (expiring expiry (settings_of choices)).settings)
-        × (result.number ≡ number_of (expiring expiry (settings_of choices)).answer) }
+    ensures set { let s = settings_of choices in
+        (settings_of result.choices ≡ kept (expiring expiry s) s) × (result.number ≡ number_of (expiring expiry s)) }
     ensures left { result.number ≡ 20 → result.choices ≡ choices }
 {
     with_discovery_expiry(choices, expiry)
@@ -481,9 +455,7 @@ pub extern "C" fn tamburelvi_set_discovery_expiry(choices: Choices, expiry: u32)
 pub extern "C" fn tamburelvi_store_settings(choices: Choices, bytes: &mut [u8]) -> Answer
     ensures { StoresSettings choices bytes.old result bytes.new }
 {
-    let settings = settings_of(choices);
-    let a = store_settings(settings, bytes);
-    stored(a)
+    stored(store_settings(settings_of(choices), bytes))
 }
 
 // Reads a record of layout 1 or 2. 22 and 23 leave the settings as they were.
@@ -491,8 +463,7 @@ pub extern "C" fn tamburelvi_store_settings(choices: Choices, bytes: &mut [u8]) 
 pub extern "C" fn tamburelvi_load_settings(choices: Choices, bytes: &[u8]) -> Adjusted
     ensures { LoadsSettings Both choices bytes.now result }
 {
-    let a = load_settings(Layouts::Both, bytes);
-    loaded(choices, a)
+    loaded(choices, load_settings(Layouts::Both, bytes))
 }
 
 // The reader that knows layout 1 alone: 23 for every record of layout 2.
@@ -500,6 +471,5 @@ pub extern "C" fn tamburelvi_load_settings(choices: Choices, bytes: &[u8]) -> Ad
 pub extern "C" fn tamburelvi_load_settings_layout_1(choices: Choices, bytes: &[u8]) -> Adjusted
     ensures { LoadsSettings First choices bytes.now result }
 {
-    let a = load_settings(Layouts::First, bytes);
-    loaded(choices, a)
+    loaded(choices, load_settings(Layouts::First, bytes))
 }

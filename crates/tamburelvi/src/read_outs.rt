@@ -6,10 +6,6 @@ ghost use Rattle.discovery_reads.specs.Reads.{page_of_row, SourceAt, PageAt, Hea
 ghost use Rattle.listening.specs.View.{listened_of};
 ghost use Rattle.boundary.specs.Boundary.{receiver_of};
 ghost use Rattle.reads.specs.Reads.{pair_read, cid_read, dmx_read, head_read, page_read, no_source, no_page, longest};
-ghost use Rattle.pairs.specs.Table.{capacity as most_pairs};
-ghost use Rattle.waiting.specs.Waiting.{capacity as most_waiting};
-ghost use Rattle.discovery.specs.Discovery.{capacity as most_pages};
-ghost use Rattle.model.specs.Step.{most_listened};
 
 use boundary::Header;
 use discovery_rows::{HeadRows, PageRows};
@@ -24,7 +20,6 @@ use waiting_store::EntryRows;
 // A pair of the data table, by its place from 0.
 #[unsafe(no_mangle)]
 pub extern "C" fn tamburelvi_data_pair(header: Header, data_pairs: &PairRows, at: usize) -> PairRead
-    requires { length data_pairs.now ≡ most_pairs }
     ensures { pair_read result
         ≡ get_or (pairs_of (receiver_of header).sequences.«data».table.count data_pairs.now) at (pair_of []) }
 {
@@ -34,7 +29,6 @@ pub extern "C" fn tamburelvi_data_pair(header: Header, data_pairs: &PairRows, at
 // A pair of the synchronisation table; its universe is the address.
 #[unsafe(no_mangle)]
 pub extern "C" fn tamburelvi_sync_pair(header: Header, sync_pairs: &PairRows, at: usize) -> PairRead
-    requires { length sync_pairs.now ≡ most_pairs }
     ensures { pair_read result ≡ get_or (pairs_of (receiver_of header).sequences.sync.table.count sync_pairs.now) at (pair_of []) }
 {
     pair_at(sync_pairs, header.sync_pairs, at)
@@ -47,7 +41,6 @@ pub extern "C" fn tamburelvi_data_source(
     data_sources: &SourceRows,
     at: usize,
 ) -> CidRead
-    requires { length data_sources.now ≡ most_pairs }
     ensures { cid_read result
         ≡ get_or (listed_sources_of (receiver_of header).sequences.«data».table.source_count data_sources.now) at (cid_of []) }
 {
@@ -61,7 +54,6 @@ pub extern "C" fn tamburelvi_sync_source(
     sync_sources: &SourceRows,
     at: usize,
 ) -> CidRead
-    requires { length sync_sources.now ≡ most_pairs }
     ensures { cid_read result
         ≡ get_or (listed_sources_of (receiver_of header).sequences.sync.table.source_count sync_sources.now) at (cid_of []) }
 {
@@ -71,7 +63,6 @@ pub extern "C" fn tamburelvi_sync_source(
 // A listened universe, ascending.
 #[unsafe(no_mangle)]
 pub extern "C" fn tamburelvi_listened(header: Header, heard: &ListenedUniverses, at: usize) -> u16
-    requires { length heard.now ≡ most_listened }
     ensures { result ≡ get_or (listened_of (receiver_of header).listened heard.now) at 0 }
 {
     listened_at(header, heard, at)
@@ -80,7 +71,6 @@ pub extern "C" fn tamburelvi_listened(header: Header, heard: &ListenedUniverses,
 // What waits for a universe, ascending, but for its values.
 #[unsafe(no_mangle)]
 pub extern "C" fn tamburelvi_waiting(header: Header, rows: &EntryRows, at: usize) -> DmxRead
-    requires { length rows.now ≡ most_waiting }
     ensures { (store : List ℕ) →
         dmx_read result ≡ (get_or (waiting_of (receiver_of header).waiting.count rows.now store) at nothing).head }
 {
@@ -90,7 +80,6 @@ pub extern "C" fn tamburelvi_waiting(header: Header, rows: &EntryRows, at: usize
 // Where its values lie in the store.
 #[unsafe(no_mangle)]
 pub extern "C" fn tamburelvi_waiting_values(header: Header, rows: &EntryRows, at: usize) -> PartRead
-    requires { length rows.now ≡ most_waiting }
     ensures { (store : List ℕ) →
         take result.count (drop result.start store)
         ≡ (get_or (waiting_of (receiver_of header).waiting.count rows.now store) at nothing).values }
@@ -106,7 +95,6 @@ pub extern "C" fn tamburelvi_source_at(
     mark: u64,
     at: usize,
 ) -> SourceRead
-    requires { length sources.now ≡ most_pages }
     ensures placed { (names pages : List (List ℕ)) (universes : List ℕ) →
         SourceAt mark at result.place (receiver_of header).discovery sources.now names pages universes }
     ensures told { result.place < (receiver_of header).discovery.source_count →
@@ -126,7 +114,6 @@ pub extern "C" fn tamburelvi_page_at(
     lo: u64,
     at: usize,
 ) -> PageRead
-    requires { length pages.now ≡ most_pages }
     ensures placed { (universes : List ℕ) →
         PageAt mark (record { hi = hi; lo = lo }) at result.place (receiver_of header).discovery pages.now universes }
     ensures told { result.place < (receiver_of header).discovery.page_count → (universes : List ℕ) → length universes ≤ longest →

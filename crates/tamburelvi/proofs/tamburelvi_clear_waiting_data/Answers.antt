@@ -13,5 +13,5 @@ pub returns : goal.returns
 returns c m =
     let v = c.args in
     let h = c.clear_waiting_data-h in
-    answers (clear_call (length v.store.now) v.universe) clear_number clear_values cleared_of tells_clear v.header (with_waiting_rows v.rows.now v.store.now m) h.result.receiver (with_waiting_rows h.new.rows h.new.store m) h.result.answer _ _ _
-    c.receiver_of-receiver.ensures (h.ensures m) c.header_of-header.ensures c.cleared-answer.ensures
+    answers (clear_call (length v.store.now) v.universe) clear_number clear_values cleared_of tells_clear v.header (with_waiting_rows v.rows.now v.store.now m) h.result.left (with_waiting_rows h.new.rows h.new.store m) h.result.answer _ _ _
+    c.receiver_of.ensures (h.ensures m) c.header_of.ensures c.cleared.ensures

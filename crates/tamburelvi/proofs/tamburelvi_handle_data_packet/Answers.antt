@@ -10,7 +10,7 @@ use Rattle.tamburelvi.proofs.tamburelvi_handle_data_packet.Goals as goal
 pub returns : goal.returns
 returns c =
     let v = c.args in
-    let h = c.handle_data_packet-h in
+    let h = c.handle_data_packet in
     replies (settings_of v.choices) v.reading (data_packet (packet_in v.«data» v.values.now)) v.header (memory v.data_pairs.now v.data_sources.now v.sync_pairs.now v.sync_sources.now v.rows.now v.store.now v.heard.now v.sources.now v.names.now v.pages.now v.universes.now) v.out.now
     h.result (memory h.new.data_pairs h.new.data_sources h.new.sync_pairs h.new.sync_sources h.new.rows h.new.store h.new.heard v.sources.now v.names.now h.new.pages h.new.universes) h.new.out
-    _ _ _ _ c.settings_of-settings.ensures (ap data_packet (c.data_of-packet.ensures v.values.now)) c.receiver_of-receiver.ensures h.ensures c.step_reply.ensures
+    _ _ _ _ c.settings_of.ensures (ap data_packet (c.data_of.ensures v.values.now)) c.receiver_of.ensures h.ensures c.step_reply.ensures

@@ -9,4 +9,4 @@ use Rattle.tamburelvi.proofs.tamburelvi_is_listening.Goals as goal
 pub returns : goal.returns
 returns c m =
     let v = c.args in
-    subst (λ (x : Receiver). c.is_listening.result ≡ listens v.universe (state_of x (with_listened_rows v.heard.now m)).listened) c.receiver_of-receiver.ensures (c.is_listening.ensures m)
+    subst (λ (x : Receiver). c.is_listening.result ≡ listens v.universe (state_of x (with_listened_rows v.heard.now m)).listened) c.receiver_of.ensures (c.is_listening.ensures m)

@@ -12,5 +12,5 @@ pub returns : goal.returns
 returns c m =
     let v = c.args in
     let h = c.listen_universes-h in
-    answers (listen_call v.list.now) listen_number listen_values heard_of tells_listen v.header (with_listened_rows v.heard.now m) h.result.receiver (with_listened_rows h.new.heard m) h.result.answer _ _ _
-    c.receiver_of-receiver.ensures (h.ensures m) c.header_of-header.ensures c.heard_answer-answer.ensures
+    answers (listen_call v.list.now) listen_number listen_values heard_of tells_listen v.header (with_listened_rows v.heard.now m) h.result.left (with_listened_rows h.new.heard m) h.result.answer _ _ _
+    c.receiver_of.ensures (h.ensures m) c.header_of.ensures c.heard_answer.ensures

@@ -12,5 +12,5 @@ pub returns : goal.returns
 returns c m =
     let v = c.args in
     let h = c.mute_universe-h in
-    answers (mute_call v.universe) mute_number mute_values muted_of tells_mute v.header (with_listened_rows v.heard.now m) h.result.receiver (with_listened_rows h.new.heard m) h.result.answer _ _ _
-    c.receiver_of-receiver.ensures (h.ensures m) c.header_of-header.ensures c.muted-answer.ensures
+    answers (mute_call v.universe) mute_number mute_values muted_of tells_mute v.header (with_listened_rows v.heard.now m) h.result.left (with_listened_rows h.new.heard m) h.result.answer _ _ _
+    c.receiver_of.ensures (h.ensures m) c.header_of.ensures c.muted.ensures

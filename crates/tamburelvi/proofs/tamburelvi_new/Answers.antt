@@ -4,4 +4,4 @@ use Rattle.tamburelvi.specs.Laws.{begun}
 use Rattle.tamburelvi.proofs.tamburelvi_new.Goals as goal
 
 pub returns : goal.returns
-returns c m = begun _ _ _ (c.new-receiver.ensures m) c.header_of.ensures
+returns c m = begun _ _ _ (c.new.ensures m) c.header_of.ensures

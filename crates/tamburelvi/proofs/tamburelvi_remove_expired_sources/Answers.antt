@@ -15,10 +15,10 @@ pub returns : goal.returns
 returns c m =
     let v = c.args in
     let h = c.remove_expired_sources-h in
-    let r = c.receiver_of-receiver in
+    let r = c.receiver_of in
     let before = with_discovery_rows v.sources.now v.names.now v.pages.now v.universes.now m in
     let after = with_discovery_rows h.new.sources h.new.names h.new.pages h.new.universes m in
-    answers (expiry_call (bytes v.universes.now) (settings_of v.choices) v.reading) expiry_number expiry_values swept_of tells_expiry v.header before h.result.receiver after h.result.answer _ _ _
+    answers (expiry_call (bytes v.universes.now) (settings_of v.choices) v.reading) expiry_number expiry_values swept_of tells_expiry v.header before h.result.left after h.result.answer _ _ _
     r.ensures
-    (subst (λ (w : Settings). Does (expiry_call (bytes v.universes.now) w v.reading) expiry_number r.result before h.result.receiver after h.result.answer) c.settings_of-settings.ensures (h.ensures m))
-    c.header_of-header.ensures c.swept-answer.ensures
+    (subst (λ (w : Settings). Does (expiry_call (bytes v.universes.now) w v.reading) expiry_number r.result before h.result.left after h.result.answer) c.settings_of.ensures (h.ensures m))
+    c.header_of.ensures c.swept.ensures
