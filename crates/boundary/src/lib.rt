@@ -1,4 +1,6 @@
 // What crosses the C boundary: headers, settings, packets and answers as structs of numbers, turned over by small functions.
+// The C interface has no Option, Result or enum with values: numbers and flags stand in their place. Functions, and no impls of From:
+// the clause of each names the definition beside it, and an answer is turned over by its own cases.
 
 #![tactic(auto)]
 

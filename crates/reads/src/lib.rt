@@ -1,4 +1,5 @@
-// Read-outs of the receiver's tables by place, as structs of numbers.
+// Read-outs of the receiver's tables by place, as structs of numbers. The C interface has no Option: past the last there are zeros, and a
+// flag says whether there is a CID.
 
 #![tactic(auto)]
 

@@ -1,4 +1,5 @@
 // The receiver for programs in C and Rust: headers, settings, packets and answers are structs of numbers, by value; the memory is lent to every call.
+// The C interface: the lent parts are parameters one by one, and their names, types and order stay.
 
 #![tactic(auto)]
 
