@@ -59,6 +59,7 @@ pub fn open(
     if is_idle(receiver.sequences, receiver.waiting, settings, reading) {
         return Ok(receiver);
     }
+    // The sweeps are those of `Receiver::poll`; what they answer is another enum, so each has its own match.
     let p = poll(
         receiver.sequences,
         receiver.waiting,

@@ -1,4 +1,4 @@
-// Rows of the lent tables: a row and what it stands for.
+// Rows of the lent tables: a row and what it stands for. Functions and no `From`: rows are arrays, and `Pair` and `Cid` are of other crates.
 ghost use Rattle.std.specs.Prelude.{◌≡◌};
 ghost use Rattle.pair_rows.specs.View.{cid_of, pair_of};
 

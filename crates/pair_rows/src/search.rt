@@ -23,7 +23,7 @@ pub fn same_key(pair: Pair, cid: Cid, universe: u16) -> bool
     pair.cid.is_same(cid) && pair.universe == universe
 }
 
-// How many pairs stand before the key.
+// How many pairs stand before the key. A walk, since halving would ask for pairs in order, which no caller is asked for.
 pub fn place_of(pairs: &PairRows, n: usize, cid: Cid, universe: u16) -> usize
     requires { n ≤ capacity }
     ensures { (result ≤ n) × (result ≡ place key_before key_of (key cid universe) (pairs_of n pairs.now)) }

@@ -104,7 +104,7 @@ pub fn store_settings(settings: Settings, bytes: &mut [u8]) -> Result<(), StoreS
     Ok(())
 }
 
-// Whether the five bytes that are 0 or 1 are so.
+// Whether the five bytes that are 0 or 1 are so. Each is a setting of its own, so here and in `settings_from` they stand one by one.
 fn are_flags(a: u8, b: u8, c: u8, d: u8, m: u8) -> bool
     ensures { result ≡ flags a b c d m }
 {

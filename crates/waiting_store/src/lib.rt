@@ -78,7 +78,7 @@ fn row_of(d: DmxData, n: usize) -> EntryRow
     ]
 }
 
-// How many rows at the front are of universes below this one.
+// How many rows at the front are of universes below this one. A walk, since halving would ask for rows in order, which no caller is asked for.
 fn place_of(rows: &EntryRows, n: usize, universe: u16) -> usize
     requires { n ≤ capacity }
     ensures { result ≡ prefix_len (λ row. below universe (head_of row)) (take n rows.now) }
