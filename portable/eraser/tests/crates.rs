@@ -65,8 +65,10 @@ fn every_line_keeps_its_place_and_no_ghost_text_is_left() {
         }
         // A line without ghost text and without one of the other rules' forms is the source's, byte for byte.
         for (before, after) in s.text.lines().zip(plain[&s.file].lines()) {
+            // A trait's method keeps the `;` behind its last clause.
+            let ends = after.trim() == ";" && before.ends_with("};");
             assert!(
-                before == after || after.trim().is_empty() || before.starts_with(after),
+                before == after || after.trim().is_empty() || before.starts_with(after) || ends,
                 "{name}: {before}"
             );
         }
