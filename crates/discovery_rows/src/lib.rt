@@ -1,5 +1,5 @@
-// Discovery's lent rows, of sources and of pages: whose a row is, and rows found, put in, taken out and turned.
-// discovery_pages calls owners and rows, discovery_calls rows, discovery_reads owners.
+// Discovery's lent rows, of sources and of pages: whose a row is, and rows found and turned.
+// discovery_pages and discovery_calls call owners and rows, discovery_reads owners.
 
 #![tactic(auto)]
 

@@ -1,4 +1,4 @@
-// The rows of sources and pages: found, put in, taken out and turned.
+// The rows of sources and pages: found and turned.
 ghost use Rattle.std.specs.Prelude.{◌≡◌, not, [], ◌∷◌, ◌++◌, map, suc, ◌+◌, ◌-◌, ◌≤◌, ◌<◌, length, take, get_or};
 ghost use Rattle.laws.specs.Place.{prefix, remove_at};
 ghost use Rattle.rules.specs.Cid.{same};

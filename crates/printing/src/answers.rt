@@ -29,7 +29,7 @@ pub fn put_number(to: Stdout, out: &mut [u8], at: usize, n: u64) -> usize
     ensures { Tells (answer_line n []) out.old at out.new result }
 {
     let a = put_decimal(to, out, at, n);
-    put(to, out, a, 10)
+    put(to, out, a, b'\n')
 }
 
 // A number with a length, a count or a universe.
@@ -38,7 +38,7 @@ pub fn put_value(to: Stdout, out: &mut [u8], at: usize, n: u64, value: u64) -> u
     ensures { Tells (answer_line n (number value ∷ [])) out.old at out.new result }
 {
     let a = put_decimal(to, out, at, n);
-    let b = put(to, out, a, 32);
+    let b = put(to, out, a, b' ');
     put_number(to, out, b, value)
 }
 
@@ -56,9 +56,9 @@ fn put_pair(to: Stdout, out: &mut [u8], at: usize, n: u64, cid: Cid, universe: u
     ensures { Tells (answer_line n (source cid ∷ number universe ∷ [])) out.old at out.new result }
 {
     let a = put_decimal(to, out, at, n);
-    let b = put(to, out, a, 32);
+    let b = put(to, out, a, b' ');
     let d = put_cid(to, out, b, cid);
-    let e = put(to, out, d, 32);
+    let e = put(to, out, d, b' ');
     put_number(to, out, e, universe as u64)
 }
 
@@ -77,13 +77,13 @@ fn put_sequence(
         out.new result }
 {
     let a = put_decimal(to, out, at, n);
-    let b = put(to, out, a, 32);
+    let b = put(to, out, a, b' ');
     let d = put_decimal(to, out, b, arriving as u64);
-    let e = put(to, out, d, 32);
+    let e = put(to, out, d, b' ');
     let f = put_decimal(to, out, e, last as u64);
-    let g = put(to, out, f, 32);
+    let g = put(to, out, f, b' ');
     let h = put_signed(to, out, g, difference);
-    put(to, out, h, 10)
+    put(to, out, h, b'\n')
 }
 
 // A number with a byte string.
@@ -92,9 +92,9 @@ fn put_named(to: Stdout, out: &mut [u8], at: usize, n: u64, bytes: &[u8]) -> usi
     ensures { Tells (answer_line n (name «bytes».now ∷ [])) out.old at out.new result }
 {
     let a = put_decimal(to, out, at, n);
-    let b = put(to, out, a, 32);
+    let b = put(to, out, a, b' ');
     let d = put_byte_string(to, out, b, bytes);
-    put(to, out, d, 10)
+    put(to, out, d, b'\n')
 }
 
 // A release: records, bytes and the bytes themselves.
@@ -111,11 +111,11 @@ fn put_release(
 {
     let a = put_text(to, out, at, b"0 release ");
     let b = put_decimal(to, out, a, records as u64);
-    let d = put(to, out, b, 32);
+    let d = put(to, out, b, b' ');
     let e = put_decimal(to, out, d, bytes as u64);
-    let f = put(to, out, e, 32);
+    let f = put(to, out, e, b' ');
     let g = put_hex(to, out, f, front(released, bytes));
-    put(to, out, g, 10)
+    put(to, out, g, b'\n')
 }
 
 pub fn put_step(
@@ -202,11 +202,12 @@ pub fn put_clear(to: Stdout, out: &mut [u8], at: usize, answer: ClearAnswer) -> 
     }
 }
 
-pub fn put_setting(
+// What a setter answers, by value or over a record lent.
+pub fn put_setting<T: Copy>(
     to: Stdout,
     out: &mut [u8],
     at: usize,
-    answer: Result<Settings, SettingError>,
+    answer: Result<T, SettingError>,
 ) -> usize
     requires { Ready at out.old }
     ensures { Tells (answer_line (number_of answer) (values_of answer)) out.old at out.new result }
@@ -257,7 +258,7 @@ fn put_spaced_bit(to: Stdout, out: &mut [u8], at: usize, on: bool) -> usize
     requires { Ready at out.old }
     ensures { Tells (spaced_bit on) out.old at out.new result }
 {
-    let a = put(to, out, at, 32);
+    let a = put(to, out, at, b' ');
     put_bit(to, out, a, on)
 }
 
@@ -286,15 +287,15 @@ pub fn put_settings(to: Stdout, out: &mut [u8], at: usize, settings: Settings) -
     requires { Ready at out.old }
     ensures { Tells (settings_line settings) out.old at out.new result }
 {
-    let a = put(to, out, at, 48);
+    let a = put(to, out, at, b'0');
     let b = put_spaced_bit(to, out, a, settings.process_preview_data);
     let d = put_spaced_bit(to, out, b, settings.announce_source_discovery);
     let e = put_spaced_bit(to, out, d, settings.announce_stream_termination);
     let f = put_spaced_bit(to, out, e, settings.announce_timeout);
-    let g = put(to, out, f, 32);
+    let g = put(to, out, f, b' ');
     let h = put_merge(to, out, g, settings.merge);
-    let i = put(to, out, h, 32);
+    let i = put(to, out, h, b' ');
     let j = put_limit(to, out, i, settings.source_limit);
-    let k = put(to, out, j, 32);
+    let k = put(to, out, j, b' ');
     put_number(to, out, k, settings.discovery_expiry as u64)
 }

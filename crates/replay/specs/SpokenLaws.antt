@@ -177,6 +177,10 @@ module _ (m : Memory) (output : List ℕ) (S : Settings) (s : State) where
   refused_said None r bs us h e = refl
   refused_said (Some x) r bs us h e = absurd (none-some x.command (sym e ∙ h.0))
 
+  pub carried_line : (room places : ℕ) (line : List ℕ) (r : Command) (bs us : List ℕ) → Reads (line_of room places line) (Some r) bs us
+      → carried m output bs us r S s ≡ said m output (line_of room places line) S s
+  carried_line room places line r bs us k = carried_said (line_of room places line) (Some r) r bs us (line_counts room places line) k refl
+
 -- ── a line, by its tests ──
 module _ (m : Memory) (output : List ℕ) (room places : ℕ) (long : Bool) (line : List ℕ) (S : Settings) (s : State) where
   pub spoken_silent : silent line ≡ true → outcome S s [] ≡ spoken m output room places long line S s

@@ -141,7 +141,7 @@ fn store_on(session: Session, len: u8, to: Stdout, out: &mut [u8]) -> Session
     store(session, &mut lent[..len as usize], to, out)
 }
 
-// The settings that were read or, where the reader stops, those of before.
+// The reader over the lent bytes; where it stops the settings are those of before.
 fn load(session: Session, layouts: Layouts, bytes: &[u8], to: Stdout, out: &mut [u8]) -> Session
     requires { Ready session.at out.old }
     ensures { (m : Memory) → Carries session m out.old

@@ -13,7 +13,8 @@ use Rattle.script.specs.declared.lines.Line.{Line}
 use Rattle.script.specs.Fields.{eql, ending, Ends, spelt, number_of, small_of, paired, hex_of, byte_string_of, to_source, Decoded}
 use Rattle.script.specs.FieldLaws.{next, rest_of_lem, Turn}
 use Rattle.script.specs.Lines.{Unread, Appended, Pieced, between, unreturned}
-use Rattle.script.specs.Script.{first_of, rest_of, layouts_of, Reading, Reads}
+use Rattle.script.specs.Script.{first_of, rest_of, layouts_of, Reading, Reads, word_of, line_of, fields_of, lone_of, plain}
+use Rattle.script.specs.declared.parse.Word.{Word}
 use Rattle.script.specs.declared.parse.Command.{Command}
 
 -- ── the same bytes ──
@@ -236,3 +237,16 @@ layouts_both s e h l = let k = h.ends_at in rw (le-ltb (ending 32 s) (length s) 
 -- a reading of equal lines
 pub reads_as : {x y : Option Reading} (r : Option Command) (bs us : List ℕ) → x ≡ y → Reads y r bs us → Reads x r bs us
 reads_as {x} {y} r bs us e k = subst (λ (z : Option Reading). Reads z r bs us) (sym e) k
+
+-- ── a line, as an equation ──
+pub line_fields : (room places : ℕ) (s : List ℕ) (e : ℕ) {w : Word} {t : List ℕ} → Ends 32 s e → e < length s → Some w ≡ word_of (first_of s) → t ≡ rest_of s → line_of room places s ≡ fields_of room places w t
+unfolding line_of
+line_fields room places s e {w} {t} h l p q =
+    let k = h.ends_at in
+    rw (lt-ltb (ending 32 s) (length s) (omega arith), sym p, q)
+
+pub line_lone_is : (room places : ℕ) (s : List ℕ) (e : ℕ) → Ends 32 s e → length s ≤ e → line_of room places s ≡ plain (lone_of s)
+unfolding line_of
+line_lone_is room places s e h l =
+    let k = h.ends_at in
+    rw (le-ltb (ending 32 s) (length s) (omega arith))

@@ -1,5 +1,5 @@
 // The words of a replay script: lines and their fields read as commands.
-// replay carries the commands out: it calls lines and parse, and its laws cite the types of fields.
+// replay carries the commands out: it calls lines and parse.
 
 #![tactic(auto)]
 

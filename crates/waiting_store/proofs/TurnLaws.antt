@@ -13,7 +13,8 @@ use Rattle.merge.specs.declared.DmxData.{DmxData}
 use Rattle.merge.specs.Merge.{most_values}
 use Rattle.merge.specs.Views.{dmx}
 use Rattle.waiting.specs.Records.{owner, encode}
-use Rattle.waiting_store.specs.Written.{one, two}
+use Rattle.waiting.proofs.Laws.{length_encode}
+use Rattle.waiting_store.specs.Written.{Laid, one, two}
 
 -- two blocks that do not overlap
 abbrev pub Apart : ℕ → ℕ → Type 0
@@ -59,3 +60,10 @@ encode_parts d present cid values p e =
     (ap (λ (x : List ℕ). front_bytes d present ++ x) (append_assoc (cid ++ big_endian 8 d.recv_timestamp) (big_endian 2 (length values)) values
     ∙ append_assoc cid (big_endian 8 d.recv_timestamp) (big_endian 2 (length values) ++ values)
     ∙ ap (λ (x : List ℕ). cid ++ x) (sym (append_assoc (big_endian 8 d.recv_timestamp) (big_endian 2 (length values)) values))))
+
+pub record_laid_parts : (d : DmxData) (present : ℕ) (front cid back values out out' : List ℕ) (at r : ℕ) → d.priority < 256 → owner d.src_cid ≡ present ∷ cid
+    → front ≡ front_bytes d present → back ≡ back_bytes d.recv_timestamp (length values)
+    → r ≡ at + 35 + length values → out' ≡ pasted out at (front ++ (cid ++ (back ++ values))) → Laid d values out out' at r
+record_laid_parts d present front cid back values out out' at r p o f b k e =
+    let q : front ++ (cid ++ (back ++ values)) ≡ encode (dmx d values) = rw (f, b) (sym (encode_parts d present cid values p o)) in
+    record { after = omega (arith, length_encode (dmx d values)); laid = e ∙ ap (pasted out at) q }
