@@ -138,11 +138,18 @@ impl Cid {
         self == other
     }
 
-    // The order of the sixteen bytes (law before_words).
+    // The order of the sixteen bytes (law before_words). By hand, less asked first: with the derived `<` an arrival among 1,000 pairs takes
+    // three times as long (decision 22).
     #[tactic(auto, unfolding(laws::specs::Order::before_by))]
     pub fn is_before(self, other: Cid) -> bool
         ensures { result ≡ before self other }
     {
-        self < other
+        if self.hi < other.hi {
+            true
+        } else if other.hi < self.hi {
+            false
+        } else {
+            self.lo < other.lo
+        }
     }
 }
