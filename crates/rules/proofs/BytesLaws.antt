@@ -2,7 +2,7 @@
 -- Assumes nothing.
 use Rattle.std.specs.Prelude.{◌≡◌, ℕ, zero, suc, ◌+◌, ◌*◌, ◌/◌, ◌%◌, ◌^◌, ◌<◌, ◌≤◌, true, false, cond, ltb, List, [], ◌∷◌, ◌++◌, reverse, length, take, drop, nat_lt, slice_index, refl}
 use Rattle.std.proofs.Common.{sym, ap, ◌∙◌, arith, mul-le-mul_right, suc-mul, le_of_lt, pow-suc, mod-lt, mod-eq_of_lt, add-mul, mul_assoc, mul_comm, div-add-mod', ltb-true, ltb-false, lt-ltb, le-ltb, div-one}
-use Rattle.std.specs.Int.{w64, from_be_bytes, to_be_bytes, swap_bytes}
+use Rattle.std.specs.Int.{w64, from_be_bytes, to_le_bytes, to_be_bytes, swap_bytes}
 use mathlib.Core.List.{reverse_aux, reverse-reverse}
 use Rattle.std.proofs.Math.Nat.{pow-succ', mod-one, div-div-eq-div-mul}
 use Rattle.std.proofs.lemmas.List.{length-reverse}
@@ -167,3 +167,7 @@ turned_back w t h =
     let l : length s ≡ 8 = length-reverse (big_endian 8 w) ∙ length_big_endian 8 w in
     let e : big_endian 8 (turned_of w) ≡ s = rw l at (big_endian_number s (bytes_reverse (big_endian 8 w) [] (bytes_big_endian 8 w) tt)) in
     rw (h, e) (reverse-reverse (big_endian 8 w))
+
+-- so they are the turned word's, from the lowest on
+pub turned_bytes : (w : ℕ) → to_le_bytes w64 (turned_of w) ≡ big_endian 8 w
+turned_bytes w = ap reverse (bytes_word (turned_of w)) ∙ turned_back w (turned_of w) refl

@@ -103,7 +103,8 @@ pub fn is_expired(now: u64, reading: u64) -> bool
     has_aged(E131_NETWORK_DATA_LOSS_TIMEOUT, now, reading)
 }
 
-// A word with its bytes the other way round.
+// A word with its bytes the other way round. Listed from the lowest on they are stored at once, where those of the
+// word, listed from the highest on, are stored one by one.
 #[tactic(auto, using(crate::proofs::BytesLaws::turned_word))]
 pub fn turned(h: u64) -> u64
     ensures { result ≡ turned_of h }
@@ -121,13 +122,13 @@ impl Cid {
         }
     }
 
-    #[tactic(auto, using(crate::proofs::BytesLaws::bytes_word), unfolding(crate::specs::Bytes::big_endian))]
+    #[tactic(auto, using(crate::proofs::BytesLaws::turned_bytes))]
     pub fn to_bytes(self) -> [u8; 16]
         ensures { result ≡ cid_bytes self }
     {
         let mut bytes = [0; 16];
-        bytes[..8].copy_from_slice(&self.hi.to_be_bytes());
-        bytes[8..].copy_from_slice(&self.lo.to_be_bytes());
+        bytes[..8].copy_from_slice(&turned(self.hi).to_le_bytes());
+        bytes[8..].copy_from_slice(&turned(self.lo).to_le_bytes());
         bytes
     }
 
