@@ -27,6 +27,10 @@ use Rattle.pair_rows.specs.View.{Rows, cid_of, pair_of, listed_sources_of, row_b
 use Rattle.pair_rows.specs.Rows.{key_before_by}
 use Rattle.pair_rows.specs.Notes.{lonely_swept}
 
+-- ── a row kept where it stands ──
+pub stays : (rows : Rows) (kept i : ℕ) → kept ≡ i → rows ≡ set rows kept (get_or rows i [])
+stays rows kept i e = sym (ap (λ (k : ℕ). set rows k (get_or rows i [])) e ∙ set-get_or rows i [])
+
 -- ── an ascending list from a place on ──
 module _ {K E : Type 0} (lt : K → K → Bool) (key : E → K) where
   pub ascending_drop : (i : ℕ) (es : List E) → Ascending lt key es → Ascending lt key (drop i es)

@@ -26,7 +26,9 @@ pub fn keep_live(pairs: &mut PairRows, n: usize, reading: u64) -> usize
     let mut kept = 0;
     for i in 0..n {
         if is_live(pair_of(pairs[i]), reading) {
-            pairs[kept] = pairs[i];
+            if kept < i {
+                pairs[kept] = pairs[i];
+            }
             kept += 1;
         }
     }
@@ -53,7 +55,9 @@ pub fn keep_sources(pairs: &PairRows, n: usize, sources: &mut SourceRows, m: usi
         let cid = cid_of(sources[i]);
         j = skip_before(pairs, n, j, cid);
         if starts_with(pairs, n, j, cid) {
-            sources[kept] = sources[i];
+            if kept < i {
+                sources[kept] = sources[i];
+            }
             kept += 1;
         }
     }
