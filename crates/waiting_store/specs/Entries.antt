@@ -38,6 +38,14 @@ abbrev pub row_of : DmxData → ℕ → ℕ → ℕ → ℕ → List ℕ
 row_of d present hi lo n =
     d.universe ∷ d.sync_uni ∷ d.priority ∷ bit d.preview ∷ present ∷ hi ∷ lo ∷ d.recv_timestamp ∷ n ∷ []
 
+-- the words of a row: the source's are three zeros, or 1 and its CID
+abbrev pub words_by : DmxData → ℕ → SourceCid → List ℕ
+words_by d n Merged = row_of d 0 0 0 n
+words_by d n (Of c) = row_of d 1 c.hi c.lo n
+
+abbrev pub words_of : DmxData → ℕ → List ℕ
+words_of d n = words_by d n d.src_cid
+
 abbrev pub count_of : List ℕ → ℕ
 count_of row = min (get_or row 8 0) most_values
 

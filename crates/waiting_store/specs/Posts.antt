@@ -1,16 +1,18 @@
 -- What the functions over rows and blocks show, in named parts.
 -- Assumes nothing.
-use Rattle.std.specs.Prelude.{◌≡◌, Bool, List, [], ◌≢◌, ℕ, ◌+◌, ◌-◌, ◌*◌, ◌≤◌, ◌<◌, ltb, length, take, drop, get_or, set, Result, Ok, Err}
+use Rattle.std.specs.Prelude.{◌≡◌, refl, Bool, List, [], ◌≢◌, ℕ, ◌+◌, ◌-◌, ◌*◌, ◌≤◌, ◌<◌, ltb, length, take, drop, get_or, set, Result, Ok, Err}
 use Rattle.std.proofs.Common.{◌∙◌, arith, length-drop}
 use Rattle.std.specs.List.{copy_within}
 use denote.Param.Members.{Shared}
 use Rattle.laws.specs.Place.{prefix}
 use Rattle.laws.specs.Parts.{pasted, paste_part}
 use Rattle.merge.specs.declared.DmxData.{DmxData}
+use Rattle.merge.specs.declared.SourceCid.{SourceCid}
+use Rattle.merge.specs.declared.SourceCid.TheVariants.{Merged, Of}
 use Rattle.merge.specs.Merge.{Dmx, most_values}
 use Rattle.merge.specs.Views.{dmx}
 use Rattle.waiting.specs.Waiting.{capacity}
-use Rattle.waiting_store.specs.Entries.{head_of, count_of, entries, nothing, Room, Lent, lent_put, put_entry, moved_entry, length_block}
+use Rattle.waiting_store.specs.Entries.{head_of, words_by, words_of, count_of, row_back, count_back, entries, nothing, Room, Lent, lent_put, put_entry, moved_entry, length_block}
 
 -- a row made of a header and a count
 pub record Rowed (d : DmxData) (n : ℕ) (row : List ℕ) : Type 0 where
@@ -39,6 +41,15 @@ below u d = ltb d.universe u
 abbrev pub Sought : ℕ → ℕ → List (List ℕ) → Result ℕ ℕ → Type 0
 Sought u n rows (Ok i) = (i ≡ prefix (λ row. below u (head_of row)) (take n rows)) × (i < n) × ((head_of (get_or rows i [])).universe ≡ u)
 Sought u n rows (Err i) = (i ≡ prefix (λ row. below u (head_of row)) (take n rows)) × (i < n → (head_of (get_or rows i [])).universe ≢ u)
+
+-- ── law: the words of a header and a count read as these ──
+pub rowed_words : (d : DmxData) (n : ℕ) (row : List ℕ) → d.universe < 65536 → d.sync_uni < 65536 → d.priority < 256 → n ≤ most_values → row ≡ words_of d n
+    → (row ≡ words_of d n) × Rowed d n row
+rowed_words d n row u a p h e = (e, rw e (go d.src_cid refl))
+  where
+    go : (s : SourceCid) → s ≡ d.src_cid → Rowed d n (words_by d n s)
+    go Merged q = record { head_back = row_back d 0 0 0 n u a p q; count_back = count_back d 0 0 0 n h }
+    go (Of c) q = record { head_back = row_back d 1 c.hi c.lo n u a p q; count_back = count_back d 1 c.hi c.lo n h }
 
 -- ── laws: one for each way that an entry is put ──
 pub changed_put : (rows : List (List ℕ)) (store store' : List ℕ) (i : ℕ) (row vs : List ℕ) (d : DmxData) → Room rows store → i < capacity → length vs ≤ most_values

@@ -12,7 +12,7 @@ ghost use Rattle.merge.specs.Merge.{Dmx, most_values};
 ghost use Rattle.merge.specs.Views.{dmx};
 ghost use Rattle.waiting.specs.Waiting.{capacity, released};
 ghost use Rattle.waiting.specs.Records.{most_bytes};
-ghost use Rattle.waiting_store.specs.Entries.{head_of, count_of, entries, nothing, Room};
+ghost use Rattle.waiting_store.specs.Entries.{head_of, words_of, count_of, entries, nothing, Room};
 ghost use Rattle.waiting_store.specs.Posts.{Computes, Rowed, below, Sought};
 ghost use Rattle.waiting_store.specs.Promises.{entries_before, Become, FirstBecome};
 ghost use Rattle.waiting_store.specs.Written.{due, Laid, Writing};
@@ -59,7 +59,7 @@ pub fn count_of(row: EntryRow) -> usize
 // A header and a value count as a row.
 fn row_of(d: DmxData, n: usize) -> EntryRow
     requires { n ≤ most_values }
-    ensures { Rowed d n result }
+    ensures { (result ≡ words_of d n) × Rowed d n result }
 {
     let (present, hi, lo) = match d.src_cid {
         SourceCid::Merged => (0, 0, 0),

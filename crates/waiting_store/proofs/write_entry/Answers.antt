@@ -7,4 +7,4 @@ pub returns : goal.returns
 returns c =
     let v = c.args in
     changed_put v.rows.now v.store.now c.paste.new.elements v.i c.row_of.result v.values.now v.d c.requires.0 c.requires.1 c.requires.2
-    c.row_of.ensures c.paste.ensures
+    c.row_of.ensures.1 c.paste.ensures
