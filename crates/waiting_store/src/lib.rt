@@ -12,7 +12,7 @@ ghost use Rattle.merge.specs.Merge.{Dmx, most_values};
 ghost use Rattle.merge.specs.Views.{dmx};
 ghost use Rattle.waiting.specs.Waiting.{capacity, released};
 ghost use Rattle.waiting.specs.Records.{most_bytes};
-ghost use Rattle.waiting_store.specs.Entries.{head_of, words_of, count_of, entries, nothing, Room};
+ghost use Rattle.waiting_store.specs.Entries.{head_of, words_of, count_of, entries, nothing, Room, Lent};
 ghost use Rattle.waiting_store.specs.Posts.{Computes, Rowed, below, Sought};
 ghost use Rattle.waiting_store.specs.Promises.{entries_before, Become, FirstBecome};
 ghost use Rattle.waiting_store.specs.Written.{due, Laid, Writing};
@@ -174,7 +174,7 @@ pub fn compact<F: Fn(DmxData) -> bool>(
 ) -> usize
     requires { Room rows.old store.old × (n ≤ capacity) × F.IsAlwaysCallable keeps }
     ensures { let es = entries_before rows store in
-        (result ≤ n) × ((t : DmxData → Bool) → Computes F.Fn t keeps
+        (result ≤ n) × Lent rows.old store.old rows.new store.new × ((t : DmxData → Bool) → Computes F.Fn t keeps
         → FirstBecome rows store result (keep (λ (e : Dmx). t e.head) (take n es))) }
 {
     let mut kept = 0;

@@ -38,4 +38,4 @@ returns g c =
     let l = c.loop-i in
     let v = c.args in
     let behind = l.invariant.0 in
-    (omega (arith, c.loop-i-test.false), λ t h. keeping_end v.rows.now v.store.now v.n t l.rows l.store l.kept l.i c.requires.0 c.requires.1 (l.invariant.2 t h) c.loop-i-test.false)
+    (omega (arith, c.loop-i-test.false), l.invariant.1, λ t h. keeping_end v.rows.now v.store.now v.n t l.rows l.store l.kept l.i c.requires.0 c.requires.1 (l.invariant.2 t h) c.loop-i-test.false)

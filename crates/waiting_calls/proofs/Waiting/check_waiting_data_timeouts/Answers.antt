@@ -13,7 +13,7 @@ returns-then-any_dropped c =
     let m = c.compact in
     let test : DmxData → Bool = λ d. not (expired v.reading d.recv_timestamp) in
     sweeps v.self.count v.rows.now v.store.now c.requires v.reading m.new.rows m.new.store m.result
-    (sym (c.any_dropped.ensures test (λ d b k. search rules)) ∙ c.if-any_dropped.true) m.ensures.0 (m.ensures.1 test (λ d b k. search rules))
+    (sym (c.any_dropped.ensures test (λ d b k. search rules)) ∙ c.if-any_dropped.true) m.ensures.0 (m.ensures.2 test (λ d b k. search rules))
 
 pub returns-else-any_dropped : goal.returns-else-any_dropped
 returns-else-any_dropped c =

@@ -14,7 +14,7 @@ returns c =
     let v = c.args in
     let m = c.compact-count in
     let w = c.write_release-w in
-    let kept = m.ensures.1 (λ d. not (nat_eq d.sync_uni v.address)) (λ d b k. search rules) in
+    let kept = m.ensures.2 (λ d. not (nat_eq d.sync_uni v.address)) (λ d b k. search rules) in
     called_released v.self.count v.rows.now v.store.now v.reading v.address v.out.now m.new.rows m.new.store w.new.out m.result c.if-out-lt-RELEASE_LENGTH.false
     w.result.records w.result.bytes
     (leaves v.self.count v.rows.now v.store.now c.requires v.address m.new.rows m.new.store m.result m.ensures.0 kept) w.ensures
