@@ -216,18 +216,18 @@ module _ (n : ℕ) (rows : List (List ℕ)) (store : List ℕ) (k : Kept n rows 
               (c.holds ∙ ap (λ (x : List Dmx). remove_at i (take n x)) j.changed.becomes ∙ sym (taken (universe_of p) i s))
 
   -- ── `check_waiting_data_timeouts` ──
-  pub sweeps : (now : ℕ) (rows' : List (List ℕ)) (store' : List ℕ) (m : ℕ) → list_any (λ row. not (not (expired now (head_of row).recv_timestamp))) (take n rows) ≡ true → m ≤ n
+  pub sweeps : (now : ℕ) (rows' : List (List ℕ)) (store' : List ℕ) (m : ℕ) → any (λ row. not (not (expired now (head_of row).recv_timestamp))) (take n rows) ≡ true → m ≤ n
       → Held rows store rows' store' m (keep (fresh now) (take n (entries rows store))) → SweptCall n rows store now rows' store' m
   sweeps now rows' store' m e h c =
       let b = k.count_fits in
       record {
         yields = yield n m rows rows' store store' (swept now ds) k c.lends (omega arith) c.holds (ordered_swept now ds (kept_ordered k)).ascends;
-        quiet = λ q. clash (sym (any_entries (λ (d : DmxData). not (not (expired now d.recv_timestamp))) n rows store) ∙ any_is (λ row. not (not (expired now (head_of row).recv_timestamp))) (take n rows) ∙ e) q;
+        quiet = λ q. clash (sym (any_entries (λ (d : DmxData). not (not (expired now d.recv_timestamp))) n rows store) ∙ e) q;
       }
 
-  pub sweeps_none : (now : ℕ) → list_any (λ row. not (not (expired now (head_of row).recv_timestamp))) (take n rows) ≡ false → SweptCall n rows store now rows store n
+  pub sweeps_none : (now : ℕ) → any (λ row. not (not (expired now (head_of row).recv_timestamp))) (take n rows) ≡ false → SweptCall n rows store now rows store n
   sweeps_none now e =
-      let q = sym (any_entries (λ (d : DmxData). not (not (expired now d.recv_timestamp))) n rows store) ∙ any_is (λ row. not (not (expired now (head_of row).recv_timestamp))) (take n rows) ∙ e in
+      let q = sym (any_entries (λ (d : DmxData). not (not (expired now d.recv_timestamp))) n rows store) ∙ e in
       record {
         yields = unchanged n rows store (swept now ds) k (sym (keep_all (fresh now) (λ d. not (fresh now d)) ds (λ d h. back (fresh now d) h) q));
         quiet = λ z. (refl, refl);
@@ -236,6 +236,14 @@ module _ (n : ℕ) (rows : List (List ℕ)) (store : List ℕ) (k : Kept n rows 
       back : (b : Bool) → not b ≡ false → b ≡ true
       back true h = refl
       back false h = cc
+
+  -- the same by the library's look
+  pub sweeps_look : (now : ℕ) (rows' : List (List ℕ)) (store' : List ℕ) (m : ℕ) → list_any (λ row. not (not (expired now (head_of row).recv_timestamp))) (take n rows) ≡ true → m ≤ n
+      → Held rows store rows' store' m (keep (fresh now) (take n (entries rows store))) → SweptCall n rows store now rows' store' m
+  sweeps_look now rows' store' m e h c = sweeps now rows' store' m (any_is (λ row. not (not (expired now (head_of row).recv_timestamp))) (take n rows) ∙ e) h c
+
+  pub sweeps_look_none : (now : ℕ) → list_any (λ row. not (not (expired now (head_of row).recv_timestamp))) (take n rows) ≡ false → SweptCall n rows store now rows store n
+  sweeps_look_none now e = sweeps_none now (any_is (λ row. not (not (expired now (head_of row).recv_timestamp))) (take n rows) ∙ e)
 
   -- ── `rtrv_waiting_data`: what is left ──
   pub leaves : (a : ℕ) (rows' : List (List ℕ)) (store' : List ℕ) (m : ℕ) → m ≤ n

@@ -60,17 +60,26 @@ changed_put rows store store' i row vs d r h f w e = record {
 }
 
 pub changed_move : (rows : List (List ℕ)) (store store' : List ℕ) (from to n : ℕ) → Room rows store → from < capacity → to < capacity
-    → n ≡ count_of (get_or rows from []) → store' ≡ copy_within store (from * most_values) (from * most_values + n) (to * most_values)
+    → n ≡ count_of (get_or rows from []) → store' ≡ pasted store (to * most_values) (take n (drop (from * most_values) store))
     → Changed rows store (set rows to (get_or rows from [])) store' (set (entries rows store) to (get_or (entries rows store) from nothing))
 changed_move rows store store' from to n r h g k e =
     let row = get_or rows from [] in
     let vs = take (count_of row) (drop (from * most_values) store) in
+    let f : store' ≡ pasted store (to * most_values) vs = rw k at e in
+    let l = length_block rows store row from r h in
     let m : count_of row ≤ most_values = omega arith in
-    let q : from * most_values + n - from * most_values ≡ count_of row = omega arith in
-    let s = r.store_room in
-    let f : store' ≡ pasted store (to * most_values) vs =
-    e ∙ rw q (paste_part store (to * most_values) (drop (from * most_values) store) (count_of row) (omega arith) (omega (arith, length-drop (from * most_values) store))) in
     record {
-      lent = rw f (lent_put rows store to row vs r g (omega (arith, length_block rows store row from r h)));
+      lent = rw f (lent_put rows store to row vs r g (omega arith));
       becomes = rw f (moved_entry rows store from to r h g);
     }
+
+-- the same by the library's copy within one list
+pub changed_copy : (rows : List (List ℕ)) (store store' : List ℕ) (from to n : ℕ) → Room rows store → from < capacity → to < capacity
+    → n ≡ count_of (get_or rows from []) → store' ≡ copy_within store (from * most_values) (from * most_values + n) (to * most_values)
+    → Changed rows store (set rows to (get_or rows from [])) store' (set (entries rows store) to (get_or (entries rows store) from nothing))
+changed_copy rows store store' from to n r h g k e =
+    let m : n ≤ most_values = omega arith in
+    let q : from * most_values + n - from * most_values ≡ n = omega arith in
+    let s = r.store_room in
+    changed_move rows store store' from to n r h g k
+    (e ∙ rw q (paste_part store (to * most_values) (drop (from * most_values) store) n (omega arith) (omega (arith, length-drop (from * most_values) store))))
