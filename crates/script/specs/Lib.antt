@@ -5,3 +5,4 @@ pub mod LineLaws
 pub mod Script
 pub mod ScriptLaws
 pub mod TurnLaws
+pub mod TurnsAt
