@@ -4,3 +4,4 @@ pub mod Session
 pub mod SessionLaws
 pub mod SpokenLaws
 pub mod Promises
+pub mod TurnLaws

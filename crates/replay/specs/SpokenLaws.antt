@@ -31,7 +31,7 @@ use Rattle.script.specs.Lines.{silent}
 use Rattle.replay.specs.Session.{outcome, called, stepped, refused, restored, carried, said, spoken}
 
 -- the counts of a command are the lengths of its bytes and numbers
-abbrev Counted : Command → List ℕ → List ℕ → Type 0
+abbrev pub Counted : Command → List ℕ → List ℕ → Type 0
 Counted (says.Data l) bs us = l.count ≡ length bs
 Counted (says.Discovery l) bs us = (l.name ≡ length bs) × (l.count ≡ length us)
 Counted (says.Listen n) bs us = n ≡ length us
@@ -50,30 +50,30 @@ Counted (says.Reset x) bs us = Unit {0}
 Counted (says.Sync l) bs us = Unit {0}
 Counted says.Dump bs us = Unit {0}
 
-abbrev Counts : Option Reading → Type 0
+abbrev pub Counts : Option Reading → Type 0
 Counts None = Unit {0}
 Counts (Some x) = Counted x.command x.bytes x.numbers
 
 -- ── every line counts what it reads ──
 -- what follows from a field, if it is read
-given_counts : {A : Type 0} (o : Option A) (f : A → Option Reading) → ((x : A) → Counts (f x)) → Counts (given o f)
+pub given_counts : {A : Type 0} (o : Option A) (f : A → Option Reading) → ((x : A) → Counts (f x)) → Counts (given o f)
 given_counts None f h = tt
 given_counts (Some x) f h = h x
 
-plain_counts : {A : Type 0} (o : Option A) (f : A → Command) → ((x : A) → Counted (f x) [] []) → Counts (plain (option_map f o))
+pub plain_counts : {A : Type 0} (o : Option A) (f : A → Command) → ((x : A) → Counted (f x) [] []) → Counts (plain (option_map f o))
 plain_counts None f h = tt
 plain_counts (Some x) f h = h x
 
-map_counts : {A : Type 0} (o : Option A) (f : A → Reading) → ((x : A) → Counts (Some (f x))) → Counts (option_map f o)
+pub map_counts : {A : Type 0} (o : Option A) (f : A → Reading) → ((x : A) → Counts (Some (f x))) → Counts (option_map f o)
 map_counts None f h = tt
 map_counts (Some x) f h = h x
 
-aim_counts : (w : UniverseWord) (u : ℕ) → Counted (aimed w u) [] []
+pub aim_counts : (w : UniverseWord) (u : ℕ) → Counted (aimed w u) [] []
 aim_counts universe.Mute u = tt
 aim_counts universe.Listening u = tt
 aim_counts universe.Clear u = tt
 
-time_counts : (w : ReadingWord) (n : ℕ) → Counted (timed w n) [] []
+pub time_counts : (w : ReadingWord) (n : ℕ) → Counted (timed w n) [] []
 time_counts reading.Poll n = tt
 time_counts reading.Sweep n = tt
 
@@ -99,7 +99,7 @@ lone_counts s =
     rw j (split (eql s (ascii "settings")) (λ k. rw k tt) (λ k. rw k tt)))))))))))))
 
 -- the same of a command that counts nothing
-plainly : {A : Type 0} (o : Option A) (f : A → Option Command) → ((x : A) → Counts (plain (f x))) → Counts (plain (given o f))
+pub plainly : {A : Type 0} (o : Option A) (f : A → Option Command) → ((x : A) → Counts (plain (f x))) → Counts (plain (given o f))
 plainly None f h = tt
 plainly (Some x) f h = h x
 
