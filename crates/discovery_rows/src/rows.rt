@@ -31,14 +31,14 @@ pub fn find_cid(sources: &HeadRows, count: usize, cid: Cid) -> usize
 }
 
 // The same as find_source, where the source stands nowhere before place from.
+#[tactic(auto, using(crate::specs::Walks::place_within))]
 pub fn find_from(sources: &HeadRows, count: usize, from: usize, mark: u64, cid: Cid) -> usize
     requires { (count ≤ capacity)
         × (from ≤ prefix (λ row. not (owned mark cid row)) (take count sources.now)) }
     ensures { result ≡ prefix (λ row. not (owned mark cid row)) (take count sources.now) }
 {
-    from + sources[..count]
+    from + sources[from..count]
         .iter()
-        .skip(from)
         .take_while(|row| !is_owned(*row, mark, cid))
         .count()
 }
