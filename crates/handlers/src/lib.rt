@@ -52,7 +52,7 @@ fn step_data(
         Steps settings reading (data_packet (packet_of packet values.now))
         receiver m.entry out.old result.left m.exit out.new result.answer }
 {
-    match open(
+    let opened = open(
         receiver,
         data_pairs,
         data_sources,
@@ -65,9 +65,10 @@ fn step_data(
         reading,
         test_values(values),
         out,
-    ) {
-        Ok(opened) => take_data(
-            opened,
+    );
+    match opened.answer {
+        None => take_data(
+            opened.left,
             data_pairs,
             data_sources,
             sync_pairs,
@@ -85,7 +86,10 @@ fn step_data(
             values,
             out,
         ),
-        Err(stopped) => stopped,
+        Some(answer) => After {
+            left: opened.left,
+            answer,
+        },
     }
 }
 
@@ -226,7 +230,7 @@ pub fn handle_sync_packet(
         Steps settings reading (sync_packet (sync_of packet))
         receiver m.entry out.old result.left m.exit out.new result.answer }
 {
-    match open(
+    let opened = open(
         receiver,
         data_pairs,
         data_sources,
@@ -239,9 +243,10 @@ pub fn handle_sync_packet(
         reading,
         Ok(()),
         out,
-    ) {
-        Ok(opened) => take_sync(
-            opened,
+    );
+    match opened.answer {
+        None => take_sync(
+            opened.left,
             sync_pairs,
             sync_sources,
             rows,
@@ -252,7 +257,10 @@ pub fn handle_sync_packet(
             packet,
             out,
         ),
-        Err(stopped) => stopped,
+        Some(answer) => After {
+            left: opened.left,
+            answer,
+        },
     }
 }
 
@@ -283,7 +291,7 @@ pub fn handle_universe_discovery_packet(
         Steps settings reading (discovery_packet (announcement_of packet name.now list.now))
         receiver m.entry out.now result.left m.exit out.now result.answer }
 {
-    match open(
+    let opened = open(
         receiver,
         data_pairs,
         data_sources,
@@ -296,10 +304,23 @@ pub fn handle_universe_discovery_packet(
         reading,
         test_announcement(name, list),
         out,
-    ) {
-        Ok(opened) => take_discovery(
-            opened, sources, names, pages, universes, settings, reading, packet, name, list,
+    );
+    match opened.answer {
+        None => take_discovery(
+            opened.left,
+            sources,
+            names,
+            pages,
+            universes,
+            settings,
+            reading,
+            packet,
+            name,
+            list,
         ),
-        Err(stopped) => stopped,
+        Some(answer) => After {
+            left: opened.left,
+            answer,
+        },
     }
 }

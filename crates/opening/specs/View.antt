@@ -1,6 +1,7 @@
 -- What the opening of a step promises: lengths, then the poll.
 -- Assumes nothing.
-use Rattle.std.specs.Prelude.{◌≡◌, Bool, true, false, cond, List, ℕ, eqb, Result, Ok, Err}
+use Rattle.std.specs.Prelude.{◌≡◌, Bool, true, false, cond, List, ℕ, eqb}
+use Rattle.std.specs.Prelude as rust
 use Rattle.std.proofs.Math.Option.{Option, none, some}
 use Rattle.rules.specs.Answer.{Value, first_of}
 use Rattle.settings.specs.declared.Settings.{Settings}
@@ -9,7 +10,6 @@ use Rattle.pairs.specs.Answers.{answer_of, sweep_number_of, sweep_values_of}
 use Rattle.waiting_store.specs.Entries as waiting
 use Rattle.discovery_pages.specs.Lent as pool
 use Rattle.lengths.specs.Space.{Measured, shortage, excess, measured_number, measured_values}
-use Rattle.laws.specs.declared.After.{After}
 use Rattle.model.specs.declared.StepAnswer.{StepAnswer}
 use Rattle.model.specs.declared.StepAnswer.TheVariants as says
 use Rattle.model.specs.Packet.{Packet, too_long}
@@ -33,18 +33,14 @@ first_said a b = cond (eqb a.0 0) b a
 abbrev pub opening : Option ℕ → Option ℕ → Option Key → ℕ × List Value
 opening short long k = first_said (length_said (shortage short)) (first_said (length_said (excess long)) (sweep_said k))
 
--- what lengths and poll leave, whether they end the step, and the step's answer where they do
-abbrev pub next_of : Result Receiver (After Receiver StepAnswer) → Receiver
-next_of (Ok r) = r
-next_of (Err a) = a.left
+-- whether lengths and poll end the step, and the step's answer where they do
+abbrev pub stops : rust.Option StepAnswer → Bool
+stops rust.None = false
+stops (rust.Some a) = true
 
-abbrev pub stops : Result Receiver (After Receiver StepAnswer) → Bool
-stops (Ok r) = false
-stops (Err a) = true
-
-abbrev pub answer_of_opening : Result Receiver (After Receiver StepAnswer) → StepAnswer
-answer_of_opening (Ok r) = says.Nothing
-answer_of_opening (Err a) = a.answer
+abbrev pub answer_of_opening : rust.Option StepAnswer → StepAnswer
+answer_of_opening rust.None = says.Nothing
+answer_of_opening (rust.Some a) = a
 
 -- 1 and 2: a step on any packet of this length ends here, or goes on from here
 pub record Opens (S : Settings) (now : ℕ) (long : Option ℕ) (r : Receiver) (m : Memory) (out : List ℕ) (r' : Receiver) (m' : Memory) (stopped : Bool) (answer : StepAnswer) : Type 0 where

@@ -10,7 +10,7 @@ ghost use Rattle.sequences.specs.Promises.{sequence_rows_in};
 ghost use Rattle.receiver.specs.Promises.{sequences_lent, waiting_lent};
 ghost use Rattle.lengths.specs.Finds.{long_of};
 ghost use Rattle.lengths.specs.Space.{space_of};
-ghost use Rattle.opening.specs.View.{next_of, stops, answer_of_opening, Opens, Ready};
+ghost use Rattle.opening.specs.View.{stops, answer_of_opening, Opens, Ready};
 
 use laws::After;
 use lengths::{LengthError, test_space};
@@ -22,7 +22,7 @@ use settings::Settings;
 use timeouts::{is_idle, poll};
 use waiting_store::EntryRows;
 
-// 1 and 2 of a step: lent memory, the packet's own parts, then the poll. The step goes on with what is left, or ends with an answer.
+// 1 and 2 of a step: lent memory, the packet's own parts, then the poll. The step ends with the answer; without one it goes on with what is left.
 pub fn open(
     receiver: Receiver,
     data_pairs: &mut PairRows,
@@ -36,28 +36,31 @@ pub fn open(
     reading: u64,
     part: Result<(), LengthError>,
     out: &[u8],
-) -> Result<Receiver, After<Receiver, StepAnswer>>
+) -> After<Receiver, Option<StepAnswer>>
     requires sequences { sequences.Kept receiver.sequences (sequence_rows_in data_pairs data_sources sync_pairs sync_sources) }
     requires waiting { KeptWaiting receiver.waiting.count rows.old store.old }
     ensures { (rest : Memory) (sources names pages : List (List ℕ)) →
         let m = sequences_lent data_pairs data_sources sync_pairs sync_sources (waiting_lent rows store
         (untouched (with_discovery_rows sources names pages universes.now rest))) in
-        Opens settings reading (long_of part) receiver m.entry out.now (next_of result) m.exit (stops result) (answer_of_opening result) }
+        Opens settings reading (long_of part) receiver m.entry out.now result.left m.exit (stops result.answer) (answer_of_opening result.answer) }
 {
     if let Err(LengthError::TooShort(needed)) = test_space(out, store, universes) {
-        return Err(After {
+        return After {
             left: receiver,
-            answer: StepAnswer::TooShort(needed),
-        });
+            answer: Some(StepAnswer::TooShort(needed)),
+        };
     }
     if let Err(LengthError::TooLong(length)) = part {
-        return Err(After {
+        return After {
             left: receiver,
-            answer: StepAnswer::TooLong(length),
-        });
+            answer: Some(StepAnswer::TooLong(length)),
+        };
     }
     if is_idle(receiver.sequences, receiver.waiting, settings, reading) {
-        return Ok(receiver);
+        return After {
+            left: receiver,
+            answer: None,
+        };
     }
     // The sweeps are those of `Receiver::poll`; what they answer is another enum, so each has its own match.
     let p = poll(
@@ -72,17 +75,18 @@ pub fn open(
         settings,
         reading,
     );
-    let next = Receiver {
-        sequences: p.sequences,
-        waiting: p.waiting,
-        ..receiver
-    };
-    match p.answer {
-        SweepAnswer::Quiet => Ok(next),
-        SweepAnswer::TimedOut(cid, universe) => Err(After {
-            left: next,
-            answer: StepAnswer::UniverseTimeout(cid, universe),
-        }),
+    After {
+        left: Receiver {
+            sequences: p.sequences,
+            waiting: p.waiting,
+            ..receiver
+        },
+        answer: match p.answer {
+            SweepAnswer::Quiet => None,
+            SweepAnswer::TimedOut(cid, universe) => {
+                Some(StepAnswer::UniverseTimeout(cid, universe))
+            }
+        },
     }
 }
 
