@@ -172,10 +172,12 @@ stored_restores s before n h = rw h (record_restores s n (stored_limit s (length
 pub restored_left : (s : Settings) (bytes : List ℕ) → Restores s bytes → (loaded Both bytes ≡ Ok s) × (loaded First bytes ≡ Err UnreadableSettingsRecord)
 restored_left s bytes h = (rw (take-append-drop record_length bytes) at (h.alike (drop record_length bytes)), rw (take-append-drop record_length bytes) at (h.refused (drop record_length bytes)))
 
--- a stop, whichever of the three, writes nothing
+-- each of the three stops writes nothing
 stops_left : (r : Result Unit StoreSettingsError) (s : Settings) (before : List ℕ) → (r ≡ Ok tt → ⊥) → left_by r s before ≡ before
 stops_left (Ok u) s before h = absurd (h refl)
-stops_left (Err e) s before h = refl
+stops_left (Err (TooShort n)) s before h = refl
+stops_left (Err LimitZero) s before h = refl
+stops_left (Err ExpiryOutOfRange) s before h = refl
 
 pub stopped_left : (s : Settings) (before : List ℕ) → (store_answer s (length before) ≡ Ok tt → ⊥) → store_bytes s before ≡ before
 stopped_left s before h = stops_left (store_answer s (length before)) s before h
