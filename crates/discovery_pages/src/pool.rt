@@ -13,7 +13,9 @@ pub fn open_gap(universes: &mut [u16], used: usize, at: usize, n: usize)
         × (drop (at + n) (take (used + n) universes.new) ≡ drop at (take used universes.old))
         × (drop (used + n) universes.new ≡ drop (used + n) universes.old) }
 {
-    universes.copy_within(at..used, at + n);
+    for i in (at..used).rev() {
+        universes[i + n] = universes[i];
+    }
 }
 
 // n from place from moved down to place to.
@@ -24,7 +26,9 @@ pub fn move_down(universes: &mut [u16], to: usize, from: usize, n: usize)
         × (drop (from + n) universes.new ≡ drop (from + n) universes.old) }
 {
     if to != from {
-        universes.copy_within(from..from + n, to);
+        for i in 0..n {
+            universes[to + i] = universes[from + i];
+        }
     }
 }
 
