@@ -1,10 +1,9 @@
 -- One law for each loop turn and each return of the code, over lists.
 -- Assumes nothing.
-use Rattle.std.specs.Prelude.{◌≡◌, ◌≢◌, true, false, List, [], ◌∷◌, ℕ, ◌+◌, zero, suc, ◌≤◌, ◌<◌, not, drop, get_or, Result, Ok, Err, Some, None}
+use Rattle.std.specs.Prelude.{◌≡◌, ◌≢◌, true, false, List, [], ◌∷◌, ℕ, ◌+◌, ◌-◌, zero, suc, ◌≤◌, ◌<◌, not, drop, get_or, Result, Ok, Err, Some, None}
 use Rattle.std.specs.List as list
-use Rattle.std.specs.List.Sorted.{IsBinarySearchResult}
-use Rattle.std.specs.Ordering.{nat_cmp}
-use Rattle.std.proofs.lemmas.List.Sorted.{searched}
+use Rattle.std.specs.List.Sorted.{IsPartitionedBy, IsPartitionPoint}
+use Rattle.std.proofs.lemmas.List.Sorted.{IsNonDecreasingBy-from_default, IsPartitionedBy-ltb}
 use Rattle.std.proofs.Math.Path.{refl, sym, ap}
 use Rattle.std.proofs.Common.{◌∙◌, arith, add-one, get_or-take}
 use Rattle.std.proofs.Math.Option.{Option, none, some}
@@ -14,9 +13,9 @@ use Rattle.std.proofs.Math.Seq.{drop-cons}
 use borrow.Author.Tests.{lt-ltb, le-ltb, ltb-true, ltb-false}
 use Rattle.laws.specs.Cases.{found, split}
 use Rattle.laws.specs.Order.{ℕOrder}
-use Rattle.laws.specs.Halving.{under_at, place_front}
+use Rattle.laws.specs.Halving.{under_at, place_behind, place_front}
 use Rattle.laws.specs.Table.{Ascending, find, store, remove, find_key, store_known, ascending_store, ascending_remove, length_store_new, length_store_known}
-use Rattle.laws.specs.Place.{place, insert_at, remove_at, prefix_le, prefix_stop, present, absent, absent_end, found_place, store_insert, remove_place}
+use Rattle.laws.specs.Place.{place, insert_at, remove_at, prefix_le, present, absent, absent_end, found_place, store_insert, remove_place}
 use Rattle.rules.specs.Universe.{legal}
 use Rattle.model.specs.declared.ListenAnswer.TheVariants as listen
 use Rattle.model.specs.declared.MuteAnswer.TheVariants as muting
@@ -46,7 +45,7 @@ module _ (u n : ℕ) (rows : List ℕ) (fits : n ≤ length rows) (i : ℕ) (at 
       let p = absent_end ltb itself ℕOrder u (take n rows) (omega (arith, length-take n rows)) in
       ap Err at ∙ ap (spot (place ltb itself u (take n rows))) (sym p)
 
--- what the library's search finds among universes that ascend
+-- what the library's partition point is among universes that ascend
 pub apart : (l : List ℕ) → Ascending ltb itself l → (i j : ℕ) → i < j → j < length l → get_or l i 0 < get_or l j 0
 apart [] a i j h r = absurd (omega arith)
 apart (x ∷ l) a i zero h r = absurd (omega arith)
@@ -60,40 +59,25 @@ module _ (u n : ℕ) (rows : List ℕ) (fits : n ≤ length rows) (a : Ascending
       (λ e. omega (arith, apart (take n rows) a i j (ltb-true i j e) r))
       (λ e. let same : i ≡ j = omega (arith, ltb-false i j e) in rw same (omega arith))
 
-  -- the universe at the place, if there is one, is not below
-  at_place : place ltb itself u (take n rows) < length (take n rows) → u ≤ get_or (take n rows) (place ltb itself u (take n rows)) 0
-  at_place h = ltb-false _ u (prefix_stop (λ e. ltb e u) (take n rows) 0 h)
+  pub parted : IsPartitionedBy (λ y. ltb y u) (take n rows)
+  parted = IsPartitionedBy-ltb (λ y. y) (take n rows) u (IsNonDecreasingBy-from_default (λ y. y) (take n rows) 0 rises)
 
-  pub spot_searched : (r : Result ℕ ℕ) → IsBinarySearchResult (λ y. nat_cmp y u) (take n rows) r → r ≡ spot_of u (take n rows)
-  spot_searched (Ok i) s =
-      let m = searched (take n rows) u (Ok i) s rises in
-      let long = length-take n rows in
-      let below : place ltb itself u (take n rows) ≤ i = place_front ltb itself u (take n rows) i 0 m.0 (le-ltb _ u (omega (arith, m.1))) in
-      let above : i ≤ place ltb itself u (take n rows) =
-      split (ltb (place ltb itself u (take n rows)) i)
+  pub place_parted : (i : ℕ) → i ≤ length (take n rows) → IsPartitionPoint (λ y. ltb y u ≡ true) (λ y. ltb y u ≡ false) (take n rows) i
+      → i ≡ place ltb itself u (take n rows)
+  place_parted i h p =
+      let l = take n rows in
+      let below : place ltb itself u l ≤ i =
+      split (ltb i (length l))
+      (λ e. let r = ltb-true i _ e in place_front ltb itself u l i 0 r (p.1 i 0 (omega arith) r))
+      (λ e. omega (arith, prefix_le (λ e. ltb e u) l, ltb-false i _ e)) in
+      let above : i ≤ place ltb itself u l =
+      split (ltb 0 i)
       (λ e.
-      let p = ltb-true _ i e in
-      absurd (omega (arith, m.0, m.1, apart (take n rows) a (place ltb itself u (take n rows)) i p m.0, at_place (omega (arith, m.0)))))
-      (λ e. ltb-false _ i e) in
-      spot_hit u n rows fits i (omega arith) (omega (arith, m.0)) (sym (get_or-take n rows i 0 (omega (arith, m.0))) ∙ m.1)
-  spot_searched (Err i) s =
-      let m = searched (take n rows) u (Err i) s rises in
-      let long = length-take n rows in
-      let below : place ltb itself u (take n rows) ≤ i =
-      split (ltb i (length (take n rows)))
-      (λ e. let h = ltb-true i _ e in place_front ltb itself u (take n rows) i 0 h (le-ltb _ u (omega (arith, m.2 i (omega arith) h))))
-      (λ e. omega (arith, prefix_le (λ e. ltb e u) (take n rows), ltb-false i _ e)) in
-      let above : i ≤ place ltb itself u (take n rows) =
-      split (ltb (place ltb itself u (take n rows)) i)
-      (λ e.
-      let p = ltb-true _ i e in
-      absurd (omega (arith, m.0, m.1 (place ltb itself u (take n rows)) p, at_place (omega (arith, m.0)))))
-      (λ e. ltb-false _ i e) in
-      split (ltb i n)
-      (λ e.
-      let h = ltb-true i n e in
-      spot_miss u n rows fits i (omega arith) h (λ f. omega (arith, f, get_or-take n rows i 0 h, m.2 i (omega arith) (omega arith))))
-      (λ e. spot_end u n rows fits i (omega arith) (ltb-false i n e))
+      let r = ltb-true 0 i e in
+      let q = place_behind ltb itself u ℕOrder l (i - 1) 0 a (omega arith) (p.0 (i - 1) 0 (omega arith) (omega arith)) in
+      omega arith)
+      (λ e. omega (arith, ltb-false 0 i e)) in
+      omega arith
 
 -- what each spot says of the list
 module _ (u i : ℕ) (l : List ℕ) where

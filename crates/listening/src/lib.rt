@@ -32,7 +32,12 @@ fn find(rows: &ListenedUniverses, n: usize, universe: u16) -> Result<usize, usiz
     requires { Kept (listened n) rows.now }
     ensures { result ≡ spot_of universe (take n rows.now) }
 {
-    rows[..n].binary_search(&universe)
+    let at = rows[..n].partition_point(|row| *row < universe);
+    if at < n && rows[at] == universe {
+        Ok(at)
+    } else {
+        Err(at)
+    }
 }
 
 // A universe put in, unless it stands there; without room for it, nothing changes. Answers the count.
