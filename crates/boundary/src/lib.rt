@@ -365,7 +365,7 @@ pub fn cleared(a: ClearAnswer) -> Answer
     }
 }
 
-// A limit of 0 gives 14 and changes nothing.
+// A limit of 0 gives 14 and changes nothing. Else a copy with this field written: `..choices` takes over field by field, which is longer code.
 pub fn with_source_limit(choices: Choices, limit: u16) -> Adjusted
     ensures set { let s = settings_of choices in
         (settings_of result.choices ≡ kept (limited limit s) s) × (result.number ≡ number_of (limited limit s)) }
@@ -377,16 +377,15 @@ pub fn with_source_limit(choices: Choices, limit: u16) -> Adjusted
             number: 14,
         };
     }
+    let mut changed = choices;
+    changed.source_limit = limit;
     Adjusted {
-        choices: Choices {
-            source_limit: limit,
-            ..choices
-        },
+        choices: changed,
         number: 0,
     }
 }
 
-// An expiry out of range gives 20 and changes nothing.
+// An expiry out of range gives 20 and changes nothing. A copy, as above.
 pub fn with_discovery_expiry(choices: Choices, expiry: u32) -> Adjusted
     ensures set { let s = settings_of choices in
         (settings_of result.choices ≡ kept (expiring expiry s) s) × (result.number ≡ number_of (expiring expiry s)) }
@@ -398,11 +397,10 @@ pub fn with_discovery_expiry(choices: Choices, expiry: u32) -> Adjusted
             number: 20,
         };
     }
+    let mut changed = choices;
+    changed.discovery_expiry = expiry;
     Adjusted {
-        choices: Choices {
-            discovery_expiry: expiry,
-            ..choices
-        },
+        choices: changed,
         number: 0,
     }
 }
