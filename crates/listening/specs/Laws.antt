@@ -2,8 +2,9 @@
 -- Assumes nothing.
 use Rattle.std.specs.Prelude.{◌≡◌, ◌≢◌, true, false, List, [], ◌∷◌, ℕ, ◌+◌, ◌-◌, zero, suc, ◌≤◌, ◌<◌, not, drop, get_or, Result, Ok, Err, Some, None}
 use Rattle.std.specs.List as list
-use Rattle.std.specs.List.Sorted.{IsPartitionedBy, IsPartitionPoint}
-use Rattle.std.proofs.lemmas.List.Sorted.{IsNonDecreasingBy-from_default, IsPartitionedBy-ltb}
+use Rattle.std.specs.List.Sorted.{IsPartitionedBy, IsPartitionPoint, IsBinarySearchResult}
+use Rattle.std.specs.Ordering.{nat_cmp}
+use Rattle.std.proofs.lemmas.List.Sorted.{IsNonDecreasingBy-from_default, IsPartitionedBy-ltb, searched}
 use Rattle.std.proofs.Math.Path.{refl, sym, ap}
 use Rattle.std.proofs.Common.{◌∙◌, arith, add-one, get_or-take}
 use Rattle.std.proofs.Math.Option.{Option, none, some}
@@ -15,7 +16,7 @@ use Rattle.laws.specs.Cases.{found, split}
 use Rattle.laws.specs.Order.{ℕOrder}
 use Rattle.laws.specs.Halving.{under_at, place_behind, place_front}
 use Rattle.laws.specs.Table.{Ascending, find, store, remove, find_key, store_known, ascending_store, ascending_remove, length_store_new, length_store_known}
-use Rattle.laws.specs.Place.{place, insert_at, remove_at, prefix_le, present, absent, absent_end, found_place, store_insert, remove_place}
+use Rattle.laws.specs.Place.{place, insert_at, remove_at, prefix_le, prefix_stop, present, absent, absent_end, found_place, store_insert, remove_place}
 use Rattle.rules.specs.Universe.{legal}
 use Rattle.model.specs.declared.ListenAnswer.TheVariants as listen
 use Rattle.model.specs.declared.MuteAnswer.TheVariants as muting
@@ -78,6 +79,42 @@ module _ (u n : ℕ) (rows : List ℕ) (fits : n ≤ length rows) (a : Ascending
       omega arith)
       (λ e. omega (arith, ltb-false 0 i e)) in
       omega arith
+
+  -- what the library's binary search finds among them: the same spot
+  -- the universe at the place, if there is one, is not below
+  at_place : place ltb itself u (take n rows) < length (take n rows) → u ≤ get_or (take n rows) (place ltb itself u (take n rows)) 0
+  at_place h = ltb-false _ u (prefix_stop (λ e. ltb e u) (take n rows) 0 h)
+
+  pub spot_searched : (r : Result ℕ ℕ) → IsBinarySearchResult (λ y. nat_cmp y u) (take n rows) r → r ≡ spot_of u (take n rows)
+  spot_searched (Ok i) s =
+      let m = searched (take n rows) u (Ok i) s rises in
+      let long = length-take n rows in
+      let below : place ltb itself u (take n rows) ≤ i = place_front ltb itself u (take n rows) i 0 m.0 (le-ltb _ u (omega (arith, m.1))) in
+      let above : i ≤ place ltb itself u (take n rows) =
+      split (ltb (place ltb itself u (take n rows)) i)
+      (λ e.
+      let p = ltb-true _ i e in
+      absurd (omega (arith, m.0, m.1, apart (take n rows) a (place ltb itself u (take n rows)) i p m.0, at_place (omega (arith, m.0)))))
+      (λ e. ltb-false _ i e) in
+      spot_hit u n rows fits i (omega arith) (omega (arith, m.0)) (sym (get_or-take n rows i 0 (omega (arith, m.0))) ∙ m.1)
+  spot_searched (Err i) s =
+      let m = searched (take n rows) u (Err i) s rises in
+      let long = length-take n rows in
+      let below : place ltb itself u (take n rows) ≤ i =
+      split (ltb i (length (take n rows)))
+      (λ e. let h = ltb-true i _ e in place_front ltb itself u (take n rows) i 0 h (le-ltb _ u (omega (arith, m.2 i (omega arith) h))))
+      (λ e. omega (arith, prefix_le (λ e. ltb e u) (take n rows), ltb-false i _ e)) in
+      let above : i ≤ place ltb itself u (take n rows) =
+      split (ltb (place ltb itself u (take n rows)) i)
+      (λ e.
+      let p = ltb-true _ i e in
+      absurd (omega (arith, m.0, m.1 (place ltb itself u (take n rows)) p, at_place (omega (arith, m.0)))))
+      (λ e. ltb-false _ i e) in
+      split (ltb i n)
+      (λ e.
+      let h = ltb-true i n e in
+      spot_miss u n rows fits i (omega arith) h (λ f. omega (arith, f, get_or-take n rows i 0 h, m.2 i (omega arith) (omega arith))))
+      (λ e. spot_end u n rows fits i (omega arith) (ltb-false i n e))
 
 -- what each spot says of the list
 module _ (u i : ℕ) (l : List ℕ) where
