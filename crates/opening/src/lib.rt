@@ -56,7 +56,9 @@ pub fn open(
             answer: Some(StepAnswer::TooLong(length)),
         };
     }
-    if is_idle(receiver.sequences, receiver.waiting, settings, reading) {
+    let sequences = receiver.sequences;
+    let waiting = receiver.waiting;
+    if is_idle(sequences, waiting, settings, reading) {
         return After {
             left: receiver,
             answer: None,
@@ -64,8 +66,8 @@ pub fn open(
     }
     // The sweeps are those of `Receiver::poll`; what they answer is another enum, so each has its own match.
     let p = poll(
-        receiver.sequences,
-        receiver.waiting,
+        sequences,
+        waiting,
         data_pairs,
         data_sources,
         sync_pairs,
@@ -75,18 +77,17 @@ pub fn open(
         settings,
         reading,
     );
+    let left = Receiver {
+        sequences: p.sequences,
+        waiting: p.waiting,
+        ..receiver
+    };
+    let SweepAnswer::TimedOut(cid, universe) = p.answer else {
+        return After { left, answer: None };
+    };
     After {
-        left: Receiver {
-            sequences: p.sequences,
-            waiting: p.waiting,
-            ..receiver
-        },
-        answer: match p.answer {
-            SweepAnswer::Quiet => None,
-            SweepAnswer::TimedOut(cid, universe) => {
-                Some(StepAnswer::UniverseTimeout(cid, universe))
-            }
-        },
+        left,
+        answer: Some(StepAnswer::UniverseTimeout(cid, universe)),
     }
 }
 

@@ -48,17 +48,17 @@ poll-p-requires c =
     let z : too_short (space_of v.out.now v.store.now v.universes.now) ≡ none = grind (arith, common_steps, none_short c.test_space.result (too_short (space_of v.out.now v.store.now v.universes.now)) c.test_space.ensures) in
     (c.requires.sequences, c.requires.waiting (long_enough v.out.now v.store.now v.universes.now z).held)
 
-pub returns-in-Quiet : goal.returns-in-Quiet
-returns-in-Quiet c m sources names pages =
+pub returns-in_default-answer : goal.returns-in_default-answer
+returns-in_default-answer c m sources names pages =
     let v = c.args in
     let z : too_short (space_of v.out.now v.store.now v.universes.now) ≡ none = grind (arith, common_steps, none_short c.test_space.result (too_short (space_of v.out.now v.store.now v.universes.now)) c.test_space.ensures) in
     let l : long_of v.part ≡ none = grind (arith, common_steps, none_long v.part) in
     opens_quiet v.settings v.reading (long_of v.part) v.receiver
     (with_sequence_rows (lent v.data_pairs.now v.data_sources.now v.sync_pairs.now v.sync_sources.now) (with_waiting_rows v.rows.now v.store.now (with_discovery_rows sources names pages v.universes.now m))) v.out.now
-    z l c.poll-p.ensures c.in-Quiet.is
+    z l c.poll-p.ensures c.in_default-answer.is
 
-pub returns-in-TimedOut : goal.returns-in-TimedOut
-returns-in-TimedOut c m sources names pages =
+pub returns : goal.returns
+returns c m sources names pages =
     let v = c.args in
     let z : too_short (space_of v.out.now v.store.now v.universes.now) ≡ none = grind (arith, common_steps, none_short c.test_space.result (too_short (space_of v.out.now v.store.now v.universes.now)) c.test_space.ensures) in
     let l : long_of v.part ≡ none = grind (arith, common_steps, none_long v.part) in
