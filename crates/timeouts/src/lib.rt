@@ -71,16 +71,17 @@ pub fn poll(
         settings.announce_timeout,
         reading,
     );
-    match checked.answer {
-        SweepAnswer::Quiet => Polled {
-            sequences: checked.left,
+    let sequences = checked.left;
+    let SweepAnswer::TimedOut(cid, universe) = checked.answer else {
+        return Polled {
+            sequences,
             waiting: waiting.check_waiting_data_timeouts(rows, store, reading),
             answer: SweepAnswer::Quiet,
-        },
-        SweepAnswer::TimedOut(cid, universe) => Polled {
-            sequences: checked.left,
-            waiting,
-            answer: SweepAnswer::TimedOut(cid, universe),
-        },
+        };
+    };
+    Polled {
+        sequences,
+        waiting,
+        answer: SweepAnswer::TimedOut(cid, universe),
     }
 }
