@@ -64,7 +64,7 @@ pub fn open(
             answer: None,
         };
     }
-    // The sweeps are those of `Receiver::poll`; what they answer is another enum, so each has its own match.
+    // The sweeps are those of `Receiver::poll`; what they answer is another enum, so each has its own test.
     let p = poll(
         sequences,
         waiting,
