@@ -1,11 +1,14 @@
 -- What the functions over rows and blocks show, in named parts.
 -- Assumes nothing.
-use Rattle.std.specs.Prelude.{◌≡◌, refl, Bool, List, [], ◌≢◌, ℕ, ◌+◌, ◌-◌, ◌*◌, ◌≤◌, ◌<◌, ltb, length, take, drop, get_or, set, Result, Ok, Err}
-use Rattle.std.proofs.Common.{◌∙◌, arith, length-drop}
+use Rattle.std.specs.Prelude.{◌≡◌, refl, Bool, List, [], ◌++◌, ◌≢◌, ℕ, ◌+◌, ◌-◌, ◌*◌, ◌≤◌, ◌<◌, ltb, length, take, drop, get_or, set, Result, Ok, Err}
+use Rattle.std.proofs.Common.{sym, ap, ◌∙◌, inl, inr, arith, length-drop, ltb-true}
+use Rattle.std.proofs.Math.Seq.{paste, take-add}
+use Rattle.std.proofs.lemmas.List.{set-get_or, take-append-drop}
+use Rattle.laws.specs.Order.{ℕOrder, tri}
 use Rattle.std.specs.List.{copy_within}
 use denote.Param.Members.{Shared}
 use Rattle.laws.specs.Place.{prefix}
-use Rattle.laws.specs.Parts.{pasted, paste_part}
+use Rattle.laws.specs.Parts.{pasted, paste_part, copy_turn}
 use Rattle.merge.specs.declared.DmxData.{DmxData}
 use Rattle.merge.specs.declared.SourceCid.{SourceCid}
 use Rattle.merge.specs.declared.SourceCid.TheVariants.{Merged, Of}
@@ -72,6 +75,25 @@ changed_move rows store store' from to n r h g k e =
       lent = rw f (lent_put rows store to row vs r g (omega arith));
       becomes = rw f (moved_entry rows store from to r h g);
     }
+
+-- a turn of a copy from one block to another, or onto itself
+same_paste : (l : List ℕ) (a k : ℕ) → paste l a (drop a l) k ≡ l
+same_paste l a k = ap (λ (t : List ℕ). t ++ drop (a + k) l) (sym (take-add a k l)) ∙ take-append-drop (a + k) l
+
+pub block_turn : (l m : List ℕ) (from to n k : ℕ) → from * most_values + n ≤ length l → to * most_values + n ≤ length l → n ≤ most_values → k < n
+    → m ≡ paste l (to * most_values) (drop (from * most_values) l) k
+    → set m (to * most_values + k) (get_or m (from * most_values + k) 0) ≡ paste l (to * most_values) (drop (from * most_values) l) (k + 1)
+block_turn l m from to n k f t g h e =
+    let place = to * most_values in
+    let onto : from ≡ to → set m (place + k) (get_or m (from * most_values + k) 0) ≡ paste l place (drop (from * most_values) l) (k + 1) =
+    λ s.
+    let kept : m ≡ l = e ∙ ap (λ (x : ℕ). paste l place (drop (x * most_values) l) k) s ∙ same_paste l place k in
+    ap (λ (x : ℕ). set m (place + k) (get_or m (x * most_values + k) 0)) s ∙ set-get_or m (place + k) 0 ∙ kept
+    ∙ sym (ap (λ (x : ℕ). paste l place (drop (x * most_values) l) (k + 1)) s ∙ same_paste l place (k + 1)) in
+    tri ltb ℕOrder from to
+    (λ p q. copy_turn l m (from * most_values) place n k 0 f t (inl (omega (arith, ltb-true from to p))) h e)
+    onto
+    (λ p q. copy_turn l m (from * most_values) place n k 0 f t (inr (omega (arith, ltb-true to from q))) h e)
 
 -- the same by the library's copy within one list
 pub changed_copy : (rows : List (List ℕ)) (store store' : List ℕ) (from to n : ℕ) → Room rows store → from < capacity → to < capacity

@@ -107,7 +107,10 @@ fn move_entry(rows: &mut EntryRows, store: &mut [u8], from: usize, to: usize)
         Become rows store (set es to (get_or es from nothing)) }
 {
     let start = from * VALUES;
-    store.copy_within(start..start + count_of(rows[from]), to * VALUES);
+    let place = to * VALUES;
+    for k in 0..count_of(rows[from]) {
+        store[place + k] = store[start + k];
+    }
     rows[to] = rows[from];
 }
 
